@@ -1,0 +1,10 @@
+pub mod OneAnswer
+pub mod Served
+pub mod SomeAnswer
+pub mod Alone
+pub mod Demands
+pub mod Reading
+pub mod Tests
+pub mod Five
+pub mod Read
+pub mod Cases

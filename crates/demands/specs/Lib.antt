@@ -1,0 +1,5 @@
+pub mod Demands
+pub mod OneAnswer
+pub mod Sequences
+pub mod Reading
+pub mod Cases

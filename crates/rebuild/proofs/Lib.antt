@@ -1,0 +1,3 @@
+pub mod RebuildLaws
+pub mod FillLaws
+pub mod ChooseLaws

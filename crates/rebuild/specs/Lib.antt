@@ -1,0 +1,3 @@
+pub mod Rebuild
+pub mod Fill
+pub mod Choose

@@ -1,0 +1,10 @@
+pub mod Decide
+pub mod ChainLaws
+pub mod Only
+pub mod RuleLaws
+pub mod OrderLaws
+pub mod Solve
+pub mod Solution
+pub mod Reading
+pub mod OuterLaws
+pub mod SolvesLaws

@@ -1,0 +1,11 @@
+pub mod StepLaws
+pub mod PlaceLaws
+pub mod Made
+pub mod ColumnLaws
+pub mod AnswersLaws
+pub mod GoodLaws
+pub mod OutcomeLaws
+pub mod PricesLaws
+pub mod StockLaws
+pub mod Fits
+pub mod Asked

@@ -1,0 +1,30 @@
+-- `two_price` is the figure of the price list, and small.
+use mathlib.Core.Path.{refl}
+use Prim.Native.Nat.{_-_, _*_}
+use borrow.Author.Needs.{needs}
+use native.Mathlib.Omega.{arith}
+use Rattle.shape.specs.Prices.{two-price}
+use Rattle.shape.proofs.Fits.{price-small}
+use Rattle.shape.proofs.price_list.two_price.Statement.{statement}
+use Rattle.shape.proofs.price_list.two_price.Tie as tie
+
+mul-result : tie.Need-mul-result
+mul-result c = search needs
+
+mul-result-2 : tie.Need-mul-result-2
+mul-result-2 c = search needs
+
+sub-result : tie.Need-sub-result
+sub-result c = search needs
+
+mul-result-3 : tie.Need-mul-result-3
+mul-result-3 c =
+    let sh = c .before .before .args .shape in
+    omega (arith, price-small (2 * sh .m) (2 * sh .m - 3) (omega arith) (omega arith))
+
+returns : tie.Need-returns
+unfolding two-price
+returns c = refl
+
+pub two-price-spec : {M : Type 1} → statement M
+two-price-spec = tie.close (tie.spec mul-result mul-result-2 sub-result mul-result-3 returns)

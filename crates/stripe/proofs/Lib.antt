@@ -1,0 +1,10 @@
+pub mod Information
+pub mod EncodeLaws
+pub mod CheckLaws
+pub mod Explains
+pub mod LocateLaws
+pub mod Struck
+pub mod StoreLaws
+pub mod WriteLaws
+pub mod Parities
+pub mod ColumnLaws

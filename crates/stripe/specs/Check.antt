@@ -1,0 +1,40 @@
+-- CHECK (document 01): of the stripe s, which it leaves as it is. Definitions only.
+use mathlib.Core.Path.{_≡_}
+use mathlib.Core.Bool.{Bool, false, not, cond, _||_}
+use mathlib.Core.List.{List}
+use Prim.Native.Nat.{ℕ, zero, suc, _+_}
+use lib.Dec.{eqb}
+use lib.Count.{ones}
+use Rattle.shape.specs.declared.Shape.{Shape}
+use Rattle.shape.specs.Answers.{number, stripe-table}
+use Rattle.shape.specs.Outcome.{Outcome}
+use Rattle.rule.specs.Rule.{differs}
+use Rattle.stripe.specs.declared.Checked.{Checked}
+
+-- does some i below k pass the test; how many do; the sum f 0 + .. + f (k-1)
+unfoldable pub some : ℕ → (ℕ → Bool) → Bool
+some zero test = false
+some (suc k) test = some k test || test k
+
+unfoldable pub count : ℕ → (ℕ → Bool) → ℕ
+count zero test = 0
+count (suc k) test = count k test + cond (test k) 1 0
+
+unfoldable pub total : ℕ → (ℕ → ℕ) → ℕ
+total zero f = 0
+total (suc k) f = total k f + f k
+
+-- "how many chains break the rule": chain p does if at some byte stored and computed parity differ
+unfoldable pub breaks : Shape → List ℕ → ℕ → Bool
+breaks sh s p = some (sh .w) (λ t. not (eqb (differs sh s p t) 0))
+
+unfoldable pub broken-chains : Shape → List ℕ → ℕ
+broken-chains sh s = count (sh .n) (breaks sh s)
+
+-- "the differing bits between stored and computed parity, summed over all chains"
+unfoldable pub differing-bits : Shape → List ℕ → ℕ
+differing-bits sh s = total (sh .n) (λ p. total (sh .w) (λ t. ones (differs sh s p t)))
+
+abbrev pub Check : Shape → List ℕ → Checked → Type 0
+Check sh s r =
+    Outcome (stripe-table sh s) (0, 0) (λ (x : ℕ × ℕ). x ≡ (broken-chains sh s, differing-bits sh s)) (number (r .answer)) (r .broken, r .bits)

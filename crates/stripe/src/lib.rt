@@ -1,0 +1,22 @@
+// The calls on a whole stripe: encode, check, locate, column, small write, raw store.
+// Their reports stand here, and specs/ has the contract of each; the code of the calls follows.
+use shape::Answer;
+
+// What check reports: how many chains are broken, and by how many bits in all.
+pub struct Checked {
+    pub answer: Answer,
+    pub broken: usize,
+    pub bits: usize,
+}
+
+// What locate finds.
+pub enum Damage {
+    Sound,
+    Column(usize),
+    Several,
+}
+
+pub struct Located {
+    pub answer: Answer,
+    pub damage: Damage,
+}

@@ -1,0 +1,2 @@
+pub mod XorLaws
+pub mod XorsLaws
