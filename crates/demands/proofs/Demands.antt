@@ -1,12 +1,11 @@
 -- The demands on a rebuild and on locate: the laws of their floors.
 use mathlib.Core.Path.{_≡_, sym, _∙_, subst}
-use mathlib.Core.Logic.{_⊎_, inl, inr, ⊎-elim}
+use mathlib.Core.Logic.{inl, inr, ⊎-elim}
 use Prim.Native.Nat.{ℕ}
 use native.Mathlib.Omega.{arith}
 use Rattle.shape.specs.declared.Answer.the-variants.{Done, Disagree}
 use Rattle.shape.proofs.AnswersLaws.{number-done}
 use Rattle.shape.proofs.GoodLaws.{good-m, good-room}
-use Rattle.rule.specs.Losses.{Solves}
 use Rattle.rule.proofs.SolvesLaws.{solves-one}
 use Rattle.stripe.proofs.Explains.{explains-is-mends}
 use Rattle.stripe.proofs.LocateLaws.{mends-one}

@@ -1,41 +1,34 @@
 -- The cases on the stripe of (2, 5), w 1: P5 to P10, and fill, choose and column beyond them.
-use mathlib.Core.Path.{_≡_, refl, sym, ap, ap₂, _∙_, subst}
-use mathlib.Core.Logic.{_≢_, _⊎_, inl, inr, ⊎-elim}
-use mathlib.Core.Bool.{Bool, true, false, not, _||_, true≢false}
+use mathlib.Core.Path.{_≡_, refl, sym, ap₂, _∙_}
+use mathlib.Core.Logic.{_⊎_, inl, inr, ⊎-elim}
+use mathlib.Core.Bool.{true, not, _||_, true≢false}
 use mathlib.Core.List.{List, [], _∷_}
-use Prim.Native.Nat.{ℕ, zero, suc, _+_, _-_, _*_, _≤_, _<_}
+use Prim.Native.Nat.{ℕ, zero, suc, _<_}
 use native.Mathlib.Omega.{arith}
 use lib.ListN.{length, getD, length-replicate, getD-replicate}
 use lib.Dec.{eqb}
 use lib.Count.{ones}
 use borrow.Author.Tests.{eqb-true, ne-eqb, not-true}
 use Rattle.xor.specs.Xor.{_⊕_, xors}
-use Rattle.xor.proofs.XorLaws.{⊕-laws}
 use Rattle.shape.specs.declared.Shape.{Shape}
-use Rattle.shape.specs.declared.Answer.the-variants.{Done}
-use Rattle.shape.specs.Good.{size, Good, shape}
-use Rattle.shape.specs.Place.{height, row, slot, place, byte, column}
+use Rattle.shape.specs.Good.{size, Good}
+use Rattle.shape.specs.Place.{height, row, slot, place, byte}
 use Rattle.shape.specs.Step.{left, right}
-use Rattle.shape.specs.Answers.{number, First, stripe-table}
-use Rattle.shape.specs.Prices.{encode-price, one-price, two-price, symbols-read}
-use Rattle.shape.specs.Stock.{stock, stock-table}
-use Rattle.shape.proofs.GoodLaws.{good-m, good-room, shape-2, shape-3, shape-done, stripe-done, stripe-pass}
+use Rattle.shape.specs.Answers.{number}
+use Rattle.shape.proofs.GoodLaws.{good-m, good-room, stripe-done, stripe-pass}
 use Rattle.rule.specs.declared.Losses.{Losses}
-use Rattle.rule.specs.declared.Losses.the-variants.{None, One, Two}
-use Rattle.rule.specs.Rule.{others, chain, differs, mark}
-use Rattle.rule.specs.Losses.{Lost, Beyond, Twice, Bytes, Solves}
-use Rattle.rule.specs.Outer.{walk, first, second, Outer}
-use Rattle.rule.proofs.SolvesLaws.{solves-outer}
+use Rattle.rule.specs.declared.Losses.the-variants.{One, Two}
+use Rattle.rule.specs.Rule.{others, chain, differs}
+use Rattle.rule.specs.Losses.{Beyond, Twice, Bytes, Solves}
+use Rattle.rule.specs.Outer.{walk, first}
 use Rattle.stripe.specs.declared.Damage.{Damage}
 use Rattle.stripe.specs.Check.{some, count, total, breaks, broken-chains, differing-bits}
-use Rattle.stripe.specs.Locate.{found, Explains}
+use Rattle.stripe.specs.Locate.{found}
 use Rattle.stripe.specs.Write.{write-table}
 use Rattle.stripe.specs.Store.{store-table}
-use Rattle.stripe.specs.Column.{column-table}
 use Rattle.stripe.proofs.Explains.{explains-is-mends}
 use Rattle.rebuild.specs.Rebuild.{rebuild-table}
-use Rattle.rebuild.specs.Fill.{fill-table}
-use Rattle.demands.specs.Cases.{Case, Holds, xor-at, chains-with, woven, five, sh₅, information, parity, stripe₅, lost-0-2, lost-4-0, cleared-0, flipped-0-1, cases, Cases-hold}
+use Rattle.demands.specs.Cases.{Case, Holds, woven, five, sh₅, information, parity, stripe₅, lost-0-2, lost-4-0, cleared-0, flipped-0-1}
 use Rattle.demands.proofs.Tests.{all, all-true, obeys-test, obeys-by, disobeys-by, pairs-test, away-test, explains-test, explains-by, same-test, same-by, lost-test, agrees-by, bytes-by, struck-test, struck-not}
 
 -- ---- the stripe of (2, 5), w 1

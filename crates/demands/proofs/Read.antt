@@ -1,25 +1,24 @@
 -- The cases of fill, choose and column on the stripe of (2, 5), w 1.
 use mathlib.Core.Path.{_≡_, refl, ap, _∙_}
-use mathlib.Core.Logic.{_≢_, _⊎_, inl, inr, ⊎-elim}
+use mathlib.Core.Logic.{inl, inr}
 use mathlib.Core.List.{List, [], _∷_}
 use Prim.Native.Nat.{ℕ, zero, suc, _≤_, _<_}
 use native.Mathlib.Omega.{arith}
-use lib.ListN.{length, getD, take}
+use lib.ListN.{length, getD}
 use Rattle.xor.specs.Xor.{_⊕_, xors}
-use Rattle.shape.specs.declared.Answer.the-variants.{Done}
 use Rattle.shape.specs.Good.{size}
-use Rattle.shape.specs.Place.{column-length, row, slot, place, byte, column}
+use Rattle.shape.specs.Place.{row, slot, place, byte, column}
 use Rattle.shape.specs.Step.{left, right}
 use Rattle.shape.specs.Answers.{number, First}
 use Rattle.shape.proofs.GoodLaws.{stripe-pass}
 use Rattle.rule.specs.declared.Losses.{Losses}
 use Rattle.rule.specs.declared.Losses.the-variants.{None, One, Two}
 use Rattle.rule.specs.Rule.{chain, others, differs}
-use Rattle.rule.specs.Losses.{Lost, Beyond, Twice}
+use Rattle.rule.specs.Losses.{Beyond, Twice}
 use Rattle.rule.specs.Outer.{Outer}
 use Rattle.rule.proofs.SolvesLaws.{solves-outer}
 use Rattle.stripe.specs.Column.{column-table}
-use Rattle.rebuild.specs.Fill.{fill-table, Filled, Fills}
+use Rattle.rebuild.specs.Fill.{fill-table, Filled}
 use Rattle.demands.specs.Cases.{Case, Holds, woven, five, sh₅, information, parity, stripe₅, lost-0-2, flipped-0-1}
 use Rattle.demands.proofs.Tests.{all, left-test, left-by, same-test, lost-test, agrees-by}
 use Rattle.demands.proofs.Five.{good₅, neither, solves₅}

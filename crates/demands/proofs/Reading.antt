@@ -1,7 +1,7 @@
 -- The reading of the words: the laws of the floors, and what follows from the definitions by computing.
 use mathlib.Core.Path.{_≡_, ap}
 use mathlib.Core.Logic.{⊎-elim}
-use Prim.Native.Nat.{ℕ, _+_, _-_, _*_, _<_}
+use Prim.Native.Nat.{ℕ, _+_, _-_, _*_}
 use native.Mathlib.Omega.{arith}
 use mathlib.Core.Bool.{true, false}
 use lib.ListN.{getD}

@@ -1,6 +1,6 @@
 -- What a served request comes to: one reply and one content of the client's buffers, whatever the workspace held; the workspace as it was, or clear;
 -- nothing changed where the answer is a refusal.
-use mathlib.Core.Path.{_≡_, refl, sym, ap, _∙_, subst, fun-ext}
+use mathlib.Core.Path.{_≡_, sym, ap, _∙_, subst, fun-ext}
 use mathlib.Core.Logic.{_≢_, _⊎_, inl, inr}
 use mathlib.Core.List.{List}
 use Prim.Native.Nat.{ℕ}
@@ -14,7 +14,7 @@ use Rattle.rebuild.specs.Rebuild.{Cleared, Rebuild}
 use Rattle.demands.specs.OneAnswer.{One-result, One-outcome}
 use Rattle.demands.specs.Demands.{Refused-changes-nothing}
 use Rattle.demands.specs.Sequences
-use Rattle.demands.specs.Sequences.{Buffers, Request, Reply, Looks, Only-stripe, Writes, Stages, Only-answer, Puts, Served}
+use Rattle.demands.specs.Sequences.{Buffers, Request, Reply, Looks, Only-stripe, Writes, Only-answer, Puts, Served}
 use Rattle.demands.specs.Sequences.{encode, check, locate, small-write, raw-store, rebuild, read-column, fill, choose, prices, stock}
 use Rattle.demands.specs.Sequences.{answered, checked, located, handed, priced, stocked}
 use Rattle.demands.proofs.OneAnswer.{one-encode, one-check, one-locate, one-small-write, one-raw-store, one-rebuild, one-column, one-fill, one-choose, one-prices, one-stock}

@@ -21,7 +21,7 @@ use Rattle.rebuild.proofs.RebuildLaws.{rebuild-some}
 use Rattle.rebuild.proofs.FillLaws.{fill-some}
 use Rattle.rebuild.proofs.ChooseLaws.{choose-some}
 use Rattle.demands.specs.OneAnswer.{Some-answer}
-use Rattle.demands.specs.Sequences.{Buffers, Request, Reply, Looks, Only-stripe, Writes, Only-answer, Puts, Served, World}
+use Rattle.demands.specs.Sequences.{Buffers, Request, Reply, Looks, Only-stripe, Writes, Puts, Served}
 use Rattle.demands.specs.Sequences.{encode, check, locate, small-write, raw-store, rebuild, read-column, fill, choose, prices, stock}
 use Rattle.demands.specs.Sequences.{answered, checked, located, handed, priced, stocked}
 

@@ -1,7 +1,7 @@
 -- SMALL STRIPES BY HAND (document 01, P1 to P11): one list of cases, and what it is for a case to hold, said by the definitions of the rule
 -- and by the calls' own contracts.
 use mathlib.Core.Path.{_≡_}
-use mathlib.Core.Bool.{Bool, cond}
+use mathlib.Core.Bool.{cond}
 use mathlib.Core.List.{List, [], _∷_}
 use Prim.Native.Nat.{ℕ, zero, suc, _-_, _*_, _≤_}
 use lib.ListN.{replicate}

@@ -11,8 +11,6 @@ use Rattle.shape.specs.declared.Stocked.{Stocked}
 use Rattle.shape.specs.Prices.{Prices}
 use Rattle.shape.specs.Stock.{Stock}
 use Rattle.rule.specs.declared.Losses.{Losses}
-use Rattle.stripe.specs.declared.Checked.{Checked}
-use Rattle.stripe.specs.declared.Located.{Located}
 use Rattle.stripe.specs.Encode.{Encode}
 use Rattle.stripe.specs.Check.{Check}
 use Rattle.stripe.specs.Locate.{Locate}

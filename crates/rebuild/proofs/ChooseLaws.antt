@@ -1,8 +1,8 @@
 -- Laws of choose: one part, and some; empty exactly where fill is refused; after fill, the column that rebuild would leave.
 use mathlib.Core.Path.{_≡_, refl, sym, ap, _∙_}
-use mathlib.Core.Logic.{_↔_, _≢_, inl}
+use mathlib.Core.Logic.{_↔_, _≢_}
 use mathlib.Core.List.{List, []}
-use Prim.Native.Nat.{ℕ, _*_, _≤_, _<_, min}
+use Prim.Native.Nat.{ℕ, _<_}
 use native.Mathlib.Nat.{mul-pos}
 use native.Mathlib.Omega.{arith}
 use native.Mathlib.Decide.{ℕ-discrete}
@@ -11,16 +11,16 @@ use lib.Seq.{ext-getD, getD-take}
 use Rattle.shape.specs.declared.Shape.{Shape}
 use Rattle.shape.specs.declared.Answer.{Answer}
 use Rattle.shape.specs.declared.Answer.the-variants.{Done}
-use Rattle.shape.specs.Good.{Good, size}
-use Rattle.shape.specs.Place.{column-length, place, byte, column}
-use Rattle.shape.specs.Answers.{number, First}
+use Rattle.shape.specs.Good.{size}
+use Rattle.shape.specs.Place.{column-length, byte, column}
+use Rattle.shape.specs.Answers.{number}
 use Rattle.shape.proofs.PlaceLaws.{height-at, offset-at, height-at-lt, offset-at-lt, place-in}
 use Rattle.shape.proofs.ColumnLaws.{length-column, getD-column}
 use Rattle.shape.proofs.AnswersLaws.{number-done, first-one}
 use Rattle.shape.proofs.GoodLaws.{good-m, good-w}
 use Rattle.shape.proofs.OutcomeLaws.{part-one, part-some}
 use Rattle.rule.specs.declared.Losses.{Losses}
-use Rattle.rule.specs.Losses.{Lost, Solves}
+use Rattle.rule.specs.Losses.{Lost}
 use Rattle.rule.specs.Outer.{Outer}
 use Rattle.rule.proofs.Reading.{lost?}
 use Rattle.rule.proofs.OuterLaws.{outer-one}

@@ -1,8 +1,8 @@
 -- Laws of fill: one outcome, and some; the order of the names has no say; equal to rebuild's where rebuild accepts.
 use mathlib.Core.Path.{_≡_, refl, sym, ap, _∙_}
-use mathlib.Core.Logic.{_≢_, _⊎_, inl, inr, ⊎-swap, ⊎-elim, Iff·rfl, Dec·not-not}
+use mathlib.Core.Logic.{_≢_, _⊎_, inl, inr, ⊎-swap, Iff·rfl, Dec·not-not}
 use mathlib.Core.Bool.{cond}
-use mathlib.Core.List.{List, [], _∷_, _++_}
+use mathlib.Core.List.{List}
 use Prim.Native.Nat.{ℕ, _≤_, _<_}
 use native.Mathlib.Omega.{arith}
 use native.Mathlib.Decide.{decLe, decLt}
@@ -12,19 +12,18 @@ use lib.Dec.{ltb}
 use borrow.Author.Tests.{lt-ltb, le-ltb}
 use Rattle.shape.specs.declared.Shape.{Shape}
 use Rattle.shape.specs.declared.Answer.{Answer}
-use Rattle.shape.specs.declared.Answer.the-variants.{Done, NoSuchPlace, SameColumn, BadBuffer}
+use Rattle.shape.specs.declared.Answer.the-variants.{NoSuchPlace, SameColumn, BadBuffer}
 use Rattle.shape.specs.Good.{Good, size}
 use Rattle.shape.specs.Place.{column-length, place, byte}
 use Rattle.shape.specs.Answers.{number, First, Rises, shape-table, stripe-table}
 use Rattle.shape.proofs.PlaceLaws.{height-at, offset-at, height-at-lt, offset-at-lt, height-at-place, offset-at-place, place-in, front-lt}
 use Rattle.shape.proofs.Made.{listed, length-listed, getD-listed}
 use Rattle.shape.proofs.AnswersLaws.{first-clear, Like, like-append, like-first}
-use Rattle.shape.proofs.GoodLaws.{good-m, good-w, stripe-pass, stripe-clear, stripe-like}
+use Rattle.shape.proofs.GoodLaws.{good-m, good-w, stripe-clear, stripe-like}
 use Rattle.shape.proofs.OutcomeLaws.{Ready, either?, call-one, call-some, stripe-ready-rest}
 use Rattle.rule.specs.declared.Losses.{Losses}
 use Rattle.rule.specs.declared.Losses.the-variants.{Two}
 use Rattle.rule.specs.Losses.{Lost, Beyond, Twice}
-use Rattle.rule.specs.Outer.{Outer}
 use Rattle.rule.proofs.Reading.{lost?, beyond?, twice?}
 use Rattle.rule.proofs.OuterLaws.{outer-one, outer-some, outer-either}
 use Rattle.rebuild.specs.Fill.{fill-table, Filled, Fills, Fill}

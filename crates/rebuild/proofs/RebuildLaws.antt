@@ -1,10 +1,10 @@
 -- Laws of rebuild: one outcome, and some; exactly when it is accepted; old bytes and the order of names have no say.
 use mathlib.Core.Path.{_≡_, refl, sym, ap, _∙_}
-use mathlib.Core.Logic.{_↔_, Iff·rfl, _≢_, _⊎_, inl, inr, ⊎-swap, Dec·not-not}
-use mathlib.Core.List.{List, [], _∷_, _++_}
-use Prim.Native.Nat.{ℕ, _*_, _≤_, _<_}
+use mathlib.Core.Logic.{_↔_, Iff·rfl, _≢_, _⊎_, inl, inr, ⊎-swap}
+use mathlib.Core.List.{List, [], _∷_}
+use Prim.Native.Nat.{ℕ, _*_, _<_}
 use native.Mathlib.Omega.{arith}
-use native.Mathlib.Decide.{decLt, decLe}
+use native.Mathlib.Decide.{decLt}
 use lib.ListN.{length, replicate, length-replicate, getD-replicate}
 use lib.Seq.{ext-getD}
 use Rattle.shape.specs.declared.Shape.{Shape}

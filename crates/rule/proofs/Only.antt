@@ -1,7 +1,7 @@
 -- One column alone: of column c a chain sees one symbol, or none. All of it with 2m-1 ≤ n.
 -- To cite: only-left, only-right, only-away for the chains to the left of c, to its right and away from it; only-cases to tell them apart.
 use mathlib.Core.Path.{_≡_, sym, ap, ap₂, _∙_, subst}
-use mathlib.Core.Logic.{_≢_, _⊎_, inl, ⊎-elim}
+use mathlib.Core.Logic.{_≢_, inl, ⊎-elim}
 use mathlib.Core.Bool.{cond}
 use Prim.Native.Nat.{ℕ, zero, suc, _+_, _-_, _≤_, _<_}
 use native.Mathlib.Omega.{arith}

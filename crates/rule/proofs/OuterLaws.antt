@@ -4,7 +4,7 @@ use mathlib.Core.Path.{_≡_, refl, sym, ap, _∙_}
 use mathlib.Core.Logic.{_≢_, inl, inr, ⊎-elim, ⊎-swap}
 use mathlib.Core.Bool.{Bool, true, false, not, cond}
 use mathlib.Core.List.{List}
-use Prim.Native.Nat.{ℕ, _+_, _*_, _≤_, _<_}
+use Prim.Native.Nat.{ℕ, _+_, _<_}
 use native.Mathlib.Omega.{arith}
 use lib.ListN.{length}
 use lib.Dec.{eqb, ltb}
@@ -14,7 +14,7 @@ use Rattle.xor.proofs.XorLaws.{⊕-zero-r}
 use Rattle.shape.specs.declared.Shape.{Shape}
 use Rattle.shape.specs.Good.{Good, size}
 use Rattle.shape.specs.Place.{byte}
-use Rattle.shape.specs.Step.{left, right}
+use Rattle.shape.specs.Step.{left}
 use Rattle.shape.proofs.StepLaws.{left-lt}
 use Rattle.shape.proofs.PlaceLaws.{byte-ext}
 use Rattle.shape.proofs.Made.{made, length-made, byte-made}
@@ -22,8 +22,8 @@ use Rattle.shape.proofs.GoodLaws.{good-m, good-w, good-wide, good-room}
 use Rattle.rule.specs.declared.Losses.{Losses}
 use Rattle.rule.specs.declared.Losses.the-variants.{One, Two}
 use Rattle.rule.specs.Rule.{Grid, chain, differs}
-use Rattle.rule.specs.Losses.{Lost, Beyond, Twice, Agrees}
-use Rattle.rule.specs.Outer.{walk, first, second, without, Used, Outer}
+use Rattle.rule.specs.Losses.{Beyond, Twice}
+use Rattle.rule.specs.Outer.{without, Outer}
 use Rattle.rule.proofs.ChainLaws.{chain-cong}
 use Rattle.rule.proofs.OrderLaws.{first-either, second-either}
 use Rattle.rule.proofs.Solve.{Order, Solved, side-column, side-chain, side-chain-lt, solve, solved-one}

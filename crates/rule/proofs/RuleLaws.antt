@@ -11,7 +11,6 @@ use borrow.Author.Tests.{eq-eqb, ne-eqb}
 use Rattle.xor.specs.Xor.{_⊕_}
 use Rattle.xor.proofs.XorLaws.{⊕-zero-l, ⊕-eq, ⊕-same}
 use Rattle.shape.specs.declared.Shape.{Shape}
-use Rattle.shape.specs.Place.{byte}
 use Rattle.shape.specs.Step.{left, right}
 use Rattle.shape.proofs.StepLaws.{reach₂, left-reach, right-reach, left-zero}
 use Rattle.rule.specs.Rule.{Grid, others, chain, Obeys, differs, mark}

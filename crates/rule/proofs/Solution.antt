@@ -1,7 +1,7 @@
 -- Some grid is solved: each side asks the other, height rising each time, until there is nothing left to ask.
 -- To cite: solution, with solution-at (its values follow the outer-chain order) and solution-solved.
 use mathlib.Core.Path.{_≡_, refl, sym, ap, ap₂, _∙_}
-use mathlib.Core.Logic.{_≢_, Ne·symm}
+use mathlib.Core.Logic.{_≢_}
 use mathlib.Core.Bool.{Bool, true, false, not, cond}
 use Prim.Native.Nat.{ℕ, zero, suc, _+_, _-_, _≤_, _<_}
 use native.Mathlib.Omega.{arith}

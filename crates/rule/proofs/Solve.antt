@@ -7,7 +7,7 @@ use mathlib.Core.Bool.{Bool, true, false, not, cond}
 use Prim.Native.Nat.{ℕ, zero, suc, _+_, _-_, _*_, _≤_, _<_}
 use native.Mathlib.Omega.{arith}
 use native.Mathlib.Decide.{decLt, ℕ-discrete}
-use lib.Dec.{eqb, ltb}
+use lib.Dec.{ltb}
 use borrow.Author.Tests.{eq-eqb, ne-eqb, lt-ltb, le-ltb}
 use Rattle.xor.specs.Xor.{_⊕_}
 use Rattle.xor.proofs.XorLaws.{⊕-laws, ⊕-comm, ⊕-left-comm, ⊕-eq}
@@ -16,7 +16,7 @@ use Rattle.shape.proofs.StepLaws.{Reach, left-lt, left-reach, right-lt, right-r
 use Rattle.rule.specs.Rule.{Grid, chain}
 use Rattle.rule.specs.Outer.{without}
 use Rattle.rule.proofs.ChainLaws.{chain-xor, chain-cong, chain-none}
-use Rattle.rule.proofs.Only.{only, only-here, only-there, only-none, hit-left, hit-right}
+use Rattle.rule.proofs.Only.{only, only-there, only-none, hit-left, hit-right}
 
 -- two columns, second being s to the right of first; this alone needs 4m-3 ≤ n
 pub record Pair (m n f g s : ℕ) : Type 0 where

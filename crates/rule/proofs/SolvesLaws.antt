@@ -1,7 +1,7 @@
 -- Laws of Solves: what solves is solved in the outer-chain order, so there is at most one; whether there is one is decided.
 -- To cite: solves-outer, solves-one, solves-more, solves-across, solves?, mended-one.
 use mathlib.Core.Path.{_≡_, sym, _∙_, subst}
-use mathlib.Core.Logic.{_≢_, inl, inr}
+use mathlib.Core.Logic.{inl, inr}
 use mathlib.Core.List.{List}
 use Prim.Native.Nat.{ℕ, _<_}
 use native.Mathlib.Omega.{arith}

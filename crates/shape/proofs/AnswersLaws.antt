@@ -1,11 +1,10 @@
 -- Laws of answers and tables of refusals.
--- To cite: number-apart, done?; first-one, first-stop, first-pass, first-split, first-clear, first-lowest; Like with like-first.
+-- To cite: number-apart, number-done; first-one, first-stop, first-pass, first-split, first-clear, first-lowest; Like with like-first.
 use mathlib.Core.Path.{_≡_, refl, sym, ap, _∙_}
 use mathlib.Core.Logic.{_↔_, Iff·rfl, _≢_, _⊎_, inl, inr}
 use mathlib.Core.List.{List, [], _∷_, _++_}
 use Prim.Native.Nat.{ℕ, suc, _≤_, _<_}
 use native.Mathlib.Omega.{arith}
-use native.Mathlib.Decide.{map-dec, ℕ-discrete}
 use lib.ListN.{getD}
 use Rattle.shape.specs.declared.Answer.{Answer}
 use Rattle.shape.specs.declared.Answer.the-variants.{Done, BadRows, BadColumns, BadSymbol, BadStripe, SmallWorkspace, NoSuchPlace, SameColumn, BadBuffer, Disagree, NoSuchStock, UnknownKind, BadRecord, BadPayload, NoShape}
@@ -43,9 +42,6 @@ number-apart a b e = sym (at-number a) ∙ ap (λ (k : ℕ). getD in-order k Don
 pub number-done : (a : Answer) → (number a ≡ 0) ↔ (a ≡ Done)
 unfolding number
 number-done a = (number-apart a Done, ap number)
-
-pub done? : (a : Answer) → Dec (a ≡ Done)
-done? a = map-dec (number-done a .0) (number-done a .1) (ℕ-discrete (number a) 0)
 
 -- ---- the first row that applies
 

@@ -1,7 +1,7 @@
 -- Laws of Good: a shape is good exactly when its table lets it pass, and with the length right so does the stripe's.
--- What follows from a good shape, for those who need no more: good-tall, good-wide, good-room, good-m, good-w.
+-- What follows from a good shape, for those who need no more: good-m, good-w, good-wide, good-room.
 use mathlib.Core.Path.{_≡_, refl, sym, _∙_}
-use mathlib.Core.Logic.{_↔_, _≢_, _⊎_, inl, inr, Dec·not-not}
+use mathlib.Core.Logic.{_↔_, _⊎_, inl, inr, Dec·not-not}
 use mathlib.Core.List.{List, _++_}
 use Prim.Native.Nat.{ℕ, _+_, _*_, _≤_, _<_}
 use native.Mathlib.Omega.{arith}
@@ -38,9 +38,6 @@ module _ (sh : Shape) where
 
     pub good-w : 0 < sh .w
     good-w = good .w-fits .0
-
-    pub good-tall : 2 ≤ sh .m
-    good-tall = good .m-fits .0
 
     -- 4m-3 ≤ n
     pub good-wide : 4 * sh .m ≤ sh .n + 3

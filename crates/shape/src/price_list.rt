@@ -1,37 +1,22 @@
 // The price list: what a shape costs, in symbol XORs, and what it reads.
 ghost use mathlib.Core.Path.{_≡_};
+ghost use Prim.Native.Nat.{_-_, _*_, _≤_};
 ghost use Rattle.shape.specs.Good.{Good};
-ghost use Rattle.shape.specs.Prices.{Prices, encode-price, one-price, two-price, symbols-read};
+ghost use Rattle.shape.specs.Prices.{Prices, symbols-read};
 use crate::Answer;
 use crate::Priced;
 use crate::Shape;
 
-// What encoding costs; whoever calls it has had `refusal` answer Done.
-fn encode_price(shape: Shape) -> usize
-    requires { ⌜ Good shape ⌝ }
-    ensures { λ r. ⌜ r ≡ encode-price shape ⌝ }
+// What it costs to make so many symbols, each the XOR of the 2m-2 others of its chain; whoever calls it has had `refusal` answer Done.
+fn making(shape: Shape, symbols: usize) -> usize
+    requires { ⌜ (Good shape) × (symbols ≤ 64) ⌝ }
+    ensures { λ r. ⌜ r ≡ symbols * (2 * shape .m - 3) ⌝ }
 {
-    shape.n * (2 * shape.m - 3)
-}
-
-// What rebuilding one column costs; whoever calls it has had `refusal` answer Done.
-fn one_price(shape: Shape) -> usize
-    requires { ⌜ Good shape ⌝ }
-    ensures { λ r. ⌜ r ≡ one-price shape ⌝ }
-{
-    shape.m * (2 * shape.m - 3)
-}
-
-// What rebuilding two columns costs; whoever calls it has had `refusal` answer Done.
-fn two_price(shape: Shape) -> usize
-    requires { ⌜ Good shape ⌝ }
-    ensures { λ r. ⌜ r ≡ two-price shape ⌝ }
-{
-    2 * shape.m * (2 * shape.m - 3)
+    symbols * (2 * shape.m - 3)
 }
 
 // How many symbols are read to rebuild one column; whoever calls it has had `refusal` answer Done.
-fn symbols_read(shape: Shape) -> usize
+fn reading(shape: Shape) -> usize
     requires { ⌜ Good shape ⌝ }
     ensures { λ r. ⌜ r ≡ symbols-read shape ⌝ }
 {
@@ -45,10 +30,10 @@ pub fn prices(shape: Shape) -> Priced
     match shape.refusal() {
         Answer::Done => Priced {
             answer: Answer::Done,
-            encode: encode_price(shape),
-            one: one_price(shape),
-            two: two_price(shape),
-            reads: symbols_read(shape),
+            encode: making(shape, shape.n),
+            one: making(shape, shape.m),
+            two: making(shape, 2 * shape.m),
+            reads: reading(shape),
         },
         refused => Priced {
             answer: refused,

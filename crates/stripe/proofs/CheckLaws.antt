@@ -6,11 +6,10 @@ use mathlib.Core.List.{List}
 use Prim.Native.Nat.{ℕ, zero, suc, _+_, _<_}
 use native.Mathlib.Omega.{arith}
 use native.Mathlib.Decide.{ℕ-discrete}
-use lib.Dec.{eqb}
 use borrow.Author.Tests.{eqb-true, eq-eqb, not-false}
 use Rattle.shape.specs.declared.Shape.{Shape}
 use Rattle.shape.proofs.OutcomeLaws.{call-one, call-some, stripe-ready}
-use Rattle.rule.specs.Rule.{Obeys, differs}
+use Rattle.rule.specs.Rule.{Obeys}
 use Rattle.rule.proofs.RuleLaws.{obeys-differs}
 use Rattle.stripe.specs.declared.Checked.{Checked}
 use Rattle.stripe.specs.Check.{some, count, breaks, broken-chains, Check}

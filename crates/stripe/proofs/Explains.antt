@@ -1,13 +1,13 @@
 -- Locate's way of looking is its meaning: a column explains every difference exactly when a change within it alone makes the stripe sound.
 -- With 2m-1 ≤ n. The change that column c needs at height d is what chain c-d differs by.
-use mathlib.Core.Path.{_≡_, sym, ap, ap₂, _∙_, subst}
-use mathlib.Core.Logic.{_↔_, _≢_}
+use mathlib.Core.Path.{_≡_, sym, ap, _∙_, subst}
+use mathlib.Core.Logic.{_↔_}
 use mathlib.Core.Bool.{Bool, true, false, cond}
 use mathlib.Core.List.{List}
 use Prim.Native.Nat.{ℕ, zero, suc, _+_, _≤_, _<_}
 use native.Mathlib.Omega.{arith}
 use native.Mathlib.Decide.{ℕ-discrete}
-use lib.ListN.{length, getD}
+use lib.ListN.{length}
 use lib.Dec.{eqb}
 use Rattle.xor.specs.Xor.{_⊕_}
 use Rattle.xor.proofs.XorLaws.{⊕-laws, ⊕-lt, ⊕-same, ⊕-zero-l, ⊕-zero-r}
@@ -18,9 +18,8 @@ use Rattle.shape.specs.Step.{left, right}
 use Rattle.shape.proofs.StepLaws.{left-lt, right-lt, left-zero, right-zero}
 use Rattle.shape.proofs.PlaceLaws.{byte-small}
 use Rattle.shape.proofs.Made.{made, length-made, getD-made, byte-made}
-use Rattle.rule.specs.declared.Losses.the-variants.{One}
 use Rattle.rule.specs.Rule.{Grid, chain, differs}
-use Rattle.rule.specs.Losses.{Bytes, Solves}
+use Rattle.rule.specs.Losses.{Bytes}
 use Rattle.rule.proofs.ChainLaws.{chain-xor, chain-cong, chain-lt}
 use Rattle.rule.proofs.Only.{only, only-here, only-there, only-left, only-right, only-away, only-cases}
 use Rattle.rule.proofs.RuleLaws.{obeys-differs}

@@ -7,8 +7,7 @@ use native.Mathlib.Omega.{arith}
 use lib.ListN.{length}
 use Rattle.shape.specs.declared.Shape.{Shape}
 use Rattle.shape.specs.Good.{Good, size}
-use Rattle.shape.specs.Answers.{number, stripe-table}
-use Rattle.shape.specs.Outcome.{Outcome}
+use Rattle.shape.specs.Answers.{stripe-table}
 use Rattle.shape.proofs.GoodLaws.{stripe-done}
 use Rattle.shape.proofs.OutcomeLaws.{call-one, call-some, stripe-ready}
 use Rattle.rule.specs.declared.Losses.the-variants.{One}

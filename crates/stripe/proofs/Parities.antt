@@ -6,14 +6,13 @@ use mathlib.Core.List.{List}
 use Prim.Native.Nat.{ℕ, _+_, _-_, _≤_, _<_}
 use native.Mathlib.Omega.{arith}
 use native.Mathlib.Decide.{ℕ-discrete}
-use lib.ListN.{length, getD}
+use lib.ListN.{getD}
 use lib.Dec.{eqb}
 use borrow.Author.Tests.{eq-eqb, ne-eqb}
 use Rattle.xor.specs.Xor.{_⊕_}
 use Rattle.xor.proofs.XorLaws.{⊕-laws, ⊕-off, ⊕-cancel, ⊕-zero-l, ⊕-zero-r}
 use Rattle.shape.specs.declared.Shape.{Shape}
 use Rattle.shape.specs.declared.Answer.the-variants.{Done}
-use Rattle.shape.specs.Good.{Good, size}
 use Rattle.shape.specs.Place.{height, byte}
 use Rattle.shape.specs.Step.{left, right}
 use Rattle.shape.specs.Answers.{number}

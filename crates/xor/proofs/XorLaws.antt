@@ -3,7 +3,7 @@ use mathlib.Core.Path.{_≡_, refl, sym, ap, ap₂, _∙_}
 use Prim.Native.Nat.{ℕ, zero, suc, _+_, _*_, _/_, _%_, _<_}
 use native.Mathlib.Nat.{mod-lt}
 use native.Mathlib.Omega.{arith}
-use lib.Arith.{bin-ind, digits-div, digits-mod}
+use lib.Arith.{bin-ind, digits-mod}
 use lib.Bits.{bitXor, differ, xor-step, xor-shr, xor-comm, xor-self, xor-zero-r, xor-lt}
 use Rattle.xor.specs.Xor.{_⊕_}
 

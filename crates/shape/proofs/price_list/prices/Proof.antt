@@ -1,7 +1,10 @@
 -- `prices`: a shape that `refusal` answers Done is good, so its figures fit; any other answer is not 0, and goes with zeros.
 use mathlib.Core.Path.{refl}
+use native.Mathlib.Omega.{arith}
 use borrow.Author.Needs.{needs}
+use Rattle.shape.specs.Good.{Good}
 use Rattle.shape.specs.Answers.{number}
+use Rattle.shape.specs.Prices.{encode-price, one-price, two-price}
 use Rattle.shape.proofs.Asked.{done-good, not-done}
 use Rattle.shape.proofs.price_list.prices.Statement.{statement}
 use Rattle.shape.proofs.price_list.prices.Tie as tie
@@ -12,22 +15,28 @@ refusal-requires c κs = search needs
 enum-told : tie.Need-enum-told
 enum-told c = search needs
 
-encode-price-requires : tie.Need-encode-price-requires
-encode-price-requires c κs = done-good _ _ (c .before .before .refusal .ensures) (c .enum-told .given .1)
+good : (c : tie.After-enum-told) → Good (c .before .before .before .args .shape)
+good c = done-good _ _ (c .before .before .refusal .ensures) (c .enum-told .given .1)
 
-one-price-requires : tie.Need-one-price-requires
-one-price-requires c κs = encode-price-requires (c .before) κs
+making-requires : tie.Need-making-requires
+making-requires c κs = let g = good c in (g, omega (arith, g .n-fits .1))
 
-two-price-requires : tie.Need-two-price-requires
-two-price-requires c κs = encode-price-requires (c .before .before) κs
+making-requires-2 : tie.Need-making-requires-2
+making-requires-2 c κs = let g = good (c .before) in (g, omega (arith, g .m-fits .1))
 
-symbols-read-requires : tie.Need-symbols-read-requires
-symbols-read-requires c κs = encode-price-requires (c .before .before .before) κs
+mul-making : tie.Need-mul-making
+mul-making c = omega (arith, good (c .before .before .before) .m-fits .1)
+
+making-requires-3 : tie.Need-making-requires-3
+making-requires-3 c κs = let g = good (c .before .before .before) in (g, omega (arith, g .m-fits .1))
+
+reading-requires : tie.Need-reading-requires
+reading-requires c κs = good (c .before .before .before .before)
 
 returns : tie.Need-returns
-unfolding number
+unfolding number encode-price one-price two-price
 returns c =
-    let s = c .before .before .before .before in record {
+    let s = c .before .before .before .before .before in record {
       answer = rw (s .enum-told .given .1) at (s .before .before .refusal .ensures);
       refused = λ ne. absurd (ne refl);
       done = λ z. cc;
@@ -46,9 +55,10 @@ prices-spec =
     (tie.spec
     refusal-requires
     enum-told
-    encode-price-requires
-    one-price-requires
-    two-price-requires
-    symbols-read-requires
+    making-requires
+    making-requires-2
+    mul-making
+    making-requires-3
+    reading-requires
     returns
     returns-2)

@@ -1,12 +1,12 @@
--- `symbols_read` is the figure of the price list; what 1 is taken from is at least 4, and small.
+-- `reading` is the figure of the price list; what 1 is taken from is at least 4, and small.
 use mathlib.Core.Path.{refl}
 use Prim.Native.Nat.{_-_, _*_}
 use borrow.Author.Needs.{needs}
 use native.Mathlib.Omega.{arith}
 use Rattle.shape.specs.Prices.{symbols-read}
 use Rattle.shape.proofs.Fits.{price-small, reads-some}
-use Rattle.shape.proofs.price_list.symbols_read.Statement.{statement}
-use Rattle.shape.proofs.price_list.symbols_read.Tie as tie
+use Rattle.shape.proofs.price_list.reading.Statement.{statement}
+use Rattle.shape.proofs.price_list.reading.Tie as tie
 
 mul-result : tie.Need-mul-result
 mul-result c = search needs
@@ -28,5 +28,5 @@ returns : tie.Need-returns
 unfolding symbols-read
 returns c = refl
 
-pub symbols-read-spec : {M : Type 1} → statement M
-symbols-read-spec = tie.close (tie.spec mul-result sub-result mul-result-2 sub-result-2 returns)
+pub reading-spec : {M : Type 1} → statement M
+reading-spec = tie.close (tie.spec mul-result sub-result mul-result-2 sub-result-2 returns)
