@@ -7,6 +7,7 @@ use native.Mathlib.Omega.{arith}
 use lib.ListN.{replicate}
 use lib.Count.{ones}
 use Rattle.xor.specs.Xor.{_⊕_, xors}
+use Rattle.xor.specs.Total.{total}
 use Rattle.xor.proofs.XorLaws.{⊕-laws}
 use Rattle.shape.specs.declared.Answer.the-variants.{Done, NoSuchStock}
 use Rattle.shape.specs.Good.{size, Good, shape}
@@ -18,7 +19,7 @@ use Rattle.shape.specs.Stock.{stock, stock-table, zero-shape}
 use Rattle.shape.proofs.GoodLaws.{shape-2, shape-3, shape-done}
 use Rattle.rule.specs.Rule.{others, chain, differs, mark}
 use Rattle.rule.specs.Outer.{walk, first}
-use Rattle.stripe.specs.Check.{some, count, total, breaks, broken-chains, differing-bits}
+use Rattle.stripe.specs.Check.{some, count, breaks, broken-chains, differing-bits}
 use Rattle.demands.specs.Cases.{Case, Holds, xor-at, chains-with, cases, Cases-hold}
 use Rattle.demands.proofs.Five.{p5, p6, p7, p8, store₉, store₁₀, counted, counts₅, find₉, find₁₀}
 use Rattle.demands.proofs.Read.{fills₅, chooses₅, hands-out₅}

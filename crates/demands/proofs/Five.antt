@@ -10,6 +10,7 @@ use lib.Dec.{eqb}
 use lib.Count.{ones}
 use borrow.Author.Tests.{eqb-true, ne-eqb, not-true}
 use Rattle.xor.specs.Xor.{_⊕_, xors}
+use Rattle.xor.specs.Total.{total}
 use Rattle.shape.specs.declared.Shape.{Shape}
 use Rattle.shape.specs.Good.{size, Good}
 use Rattle.shape.specs.Place.{height, row, slot, place, byte}
@@ -22,7 +23,7 @@ use Rattle.rule.specs.Rule.{others, chain, differs}
 use Rattle.rule.specs.Losses.{Beyond, Twice, Bytes, Solves}
 use Rattle.rule.specs.Outer.{walk, first}
 use Rattle.stripe.specs.declared.Damage.{Damage}
-use Rattle.stripe.specs.Check.{some, count, total, breaks, broken-chains, differing-bits}
+use Rattle.stripe.specs.Check.{some, count, breaks, broken-chains, differing-bits}
 use Rattle.stripe.specs.Locate.{found}
 use Rattle.stripe.specs.Write.{write-table}
 use Rattle.stripe.specs.Store.{store-table}

@@ -9,3 +9,4 @@ pub mod PricesLaws
 pub mod StockLaws
 pub mod Fits
 pub mod Asked
+pub mod WalkLaws

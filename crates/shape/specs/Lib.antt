@@ -6,3 +6,5 @@ pub mod Outcome
 pub mod Prices
 pub mod Stock
 pub mod Placed
+pub mod Walk
+pub mod Own

@@ -7,6 +7,7 @@ ghost use Rattle.shape.specs.Answers.{First, shape-table, number};
 ghost use Rattle.shape.specs.Place.{height, row, slot};
 ghost use Rattle.shape.specs.Placed.{Placed, ColumnSized, StripeSized, Stepped};
 ghost use Rattle.shape.specs.Step.{left, right};
+ghost use Rattle.shape.specs.Walk.{Ways, Walks};
 
 mod price_list;
 mod stock_shapes;
@@ -71,6 +72,19 @@ pub enum Answer {
     BadPayload,
     // A record came before any accepted shape.
     NoShape,
+}
+
+// Where the symbols of a chain stand: below height `end` in the columns p - d and p + d, from there on in c - d and p + d - off.
+// The two of the top height start at x and y, the parity symbol at `at`.
+pub struct Walk {
+    pub top: usize,
+    pub p: usize,
+    pub c: usize,
+    pub off: usize,
+    pub end: usize,
+    pub x: usize,
+    pub y: usize,
+    pub at: usize,
 }
 
 // A shape's price list: what encoding and rebuilding cost in symbol XORs, and the symbols read for one column.
@@ -192,6 +206,42 @@ impl Shape {
     {
         let n = self.n;
         (column + height) % n
+    }
+
+    // The walk of chain p that from height `end` on goes through the columns c - d and p + d - off; `walk` finds these for it.
+    fn walk_through(self, p: usize, c: usize, off: usize, end: usize) -> Walk
+        requires { ⌜ (Good self) × (end < self .m) × (Ways self p p 0 1 end) × (Ways self p c off end (self .m)) ⌝ }
+        ensures { λ r. ⌜ (Walks self (r .p) r) × (r .p ≡ p) ⌝ }
+    {
+        let top = self.m - 1;
+        Walk {
+            top: top,
+            p: p,
+            c: c,
+            off: off,
+            end: end,
+            x: self.place(top, c - top),
+            y: self.place(top, p + top - off),
+            at: self.place(0, p),
+        }
+    }
+
+    // The walk of a chain: with a wrap on the left, with one on the right, or with none.
+    // Whoever calls it has had `refusal` answer Done, and asks for a chain of the shape.
+    pub fn walk(self, p: usize) -> Walk
+        requires { ⌜ (Good self) × (p < self .n) ⌝ }
+        ensures { λ r. ⌜ (Walks self (r .p) r) × (r .p ≡ p) ⌝ }
+    {
+        let n = self.n;
+        let top = self.m - 1;
+        if p < top {
+            return self.walk_through(p, p + n, 0, p + 1);
+        }
+        let after = n - 1 - p;
+        if after < top {
+            return self.walk_through(p, p, n, after + 1);
+        }
+        self.walk_through(p, p, 0, top)
     }
 }
 

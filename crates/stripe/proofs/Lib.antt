@@ -8,3 +8,12 @@ pub mod StoreLaws
 pub mod WriteLaws
 pub mod Parities
 pub mod ColumnLaws
+pub mod Sums
+pub mod Spans
+pub mod Progress
+pub mod RefusedLaws
+pub mod HandedLaws
+pub mod Symbols
+pub mod StruckOutcome
+pub mod SetLaws
+pub mod CarriedLaws

@@ -5,13 +5,14 @@ use mathlib.Core.List.{List}
 use Prim.Native.Nat.{ℕ, zero, suc, _+_}
 use lib.Dec.{eqb}
 use lib.Count.{ones}
+use Rattle.xor.specs.Total.{total}
 use Rattle.shape.specs.declared.Shape.{Shape}
 use Rattle.shape.specs.Answers.{number, stripe-table}
 use Rattle.shape.specs.Outcome.{Outcome}
 use Rattle.rule.specs.Rule.{differs}
 use Rattle.stripe.specs.declared.Checked.{Checked}
 
--- does some i below k pass the test; how many do; the sum f 0 + .. + f (k-1)
+-- does some i below k pass the test; how many do
 unfoldable pub some : ℕ → (ℕ → Bool) → Bool
 some zero test = false
 some (suc k) test = some k test || test k
@@ -19,10 +20,6 @@ some (suc k) test = some k test || test k
 unfoldable pub count : ℕ → (ℕ → Bool) → ℕ
 count zero test = 0
 count (suc k) test = count k test + cond (test k) 1 0
-
-unfoldable pub total : ℕ → (ℕ → ℕ) → ℕ
-total zero f = 0
-total (suc k) f = total k f + f k
 
 -- "how many chains break the rule": chain p does if at some byte stored and computed parity differ
 unfoldable pub breaks : Shape → List ℕ → ℕ → Bool

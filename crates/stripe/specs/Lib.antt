@@ -4,3 +4,8 @@ pub mod Locate
 pub mod Write
 pub mod Store
 pub mod Column
+pub mod Chain
+pub mod Progress
+pub mod Handed
+pub mod Set
+pub mod Carried

@@ -2,6 +2,18 @@
 // Their reports stand here, and specs/ has the contract of each; the code of the calls follows.
 use shape::Answer;
 
+mod chain;
+mod columns;
+mod encoding;
+mod refusing;
+mod storing;
+mod writing;
+
+pub use columns::column;
+pub use encoding::encode;
+pub use storing::raw_store;
+pub use writing::small_write;
+
 // What check reports: how many chains are broken, and by how many bits in all.
 pub struct Checked {
     pub answer: Answer,

@@ -1,2 +1,5 @@
 pub mod XorLaws
 pub mod XorsLaws
+pub mod TotalLaws
+pub mod Span
+pub mod Upto

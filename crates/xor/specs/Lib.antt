@@ -1,1 +1,4 @@
 pub mod Xor
+pub mod Total
+pub mod Block
+pub mod Zero

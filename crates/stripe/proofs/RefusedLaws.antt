@@ -1,0 +1,35 @@
+-- What those who match on the answer of `refused` learn, and the rows by which it goes.
+-- To cite: done-stripe in the arm for Done, stripe-stop in the arm for all others; stripe-4 and shape-stop for `refused` itself.
+use mathlib.Core.Path.{_≡_, refl}
+use mathlib.Core.Logic.{_≢_, inl}
+use mathlib.Core.List.{List, _++_}
+use Prim.Native.Nat.{ℕ}
+use native.Mathlib.Omega.{arith}
+use lib.ListN.{length}
+use Rattle.shape.specs.declared.Shape.{Shape}
+use Rattle.shape.specs.declared.Answer.{Answer}
+use Rattle.shape.specs.declared.Answer.the-variants.{Done}
+use Rattle.shape.specs.Good.{Good, size}
+use Rattle.shape.specs.Answers.{number, Table, First, shape-table, stripe-table}
+use Rattle.shape.proofs.AnswersLaws.{Lacks, first-stop, first-pass}
+use Rattle.shape.proofs.GoodLaws.{shape-done, stripe-done}
+
+module _ (sh : Shape) (s : List ℕ) where
+  pub shape-stop : (k : ℕ) → First (shape-table sh) k → k ≢ 0 → First (stripe-table sh s) k
+  unfolding stripe-table
+  shape-stop k h ne = first-stop (shape-table sh) _ k h ne
+
+  shape-lacks : Lacks 0 (shape-table sh)
+  unfolding shape-table
+  shape-lacks = omega arith
+
+  pub stripe-4 : Good sh → length s ≢ size sh → First (stripe-table sh s) 4
+  unfolding stripe-table
+  stripe-4 good ne = first-pass (shape-table sh) _ 4 shape-lacks (shape-done sh .0 good) (inl (ne, refl))
+
+  pub done-stripe : (a : Answer) → First (stripe-table sh s) (number a) → a ≡ Done → Good sh × (length s ≡ size sh)
+  unfolding number
+  done-stripe a h e = stripe-done sh s .1 (rw e at h)
+
+  pub stripe-stop : (rest : Table) (k : ℕ) → First (stripe-table sh s) k → k ≢ 0 → First (stripe-table sh s ++ rest) k
+  stripe-stop rest k h ne = first-stop (stripe-table sh s) rest k h ne

@@ -1,0 +1,21 @@
+-- BYTES BY THEIR PLACE: what a kernel leaves in a block and in a slice. Definitions only.
+use mathlib.Core.Path.{_≡_}
+use mathlib.Core.Logic.{_⊎_}
+use mathlib.Core.List.{List}
+use Prim.Native.Nat.{ℕ, _+_, _≤_, _<_}
+use lib.ListN.{length, getD}
+
+-- the longest block that is worked on at a time
+abbrev pub longest : ℕ
+longest = 128
+
+-- a block whose first len bytes are f 0, f 1, ..
+pub record Block (f : ℕ → ℕ) (len : ℕ) (ys : List ℕ) : Type 0 where
+  pub whole : length ys ≡ longest
+  pub at : (t : ℕ) → t < len → getD ys t 0 ≡ f t
+
+-- ys is xs with f 0, f 1, .. f (len - 1) from `to` on
+pub record Spanned (f : ℕ → ℕ) (xs ys : List ℕ) (to len : ℕ) : Type 0 where
+  pub long : length ys ≡ length xs
+  pub at : (t : ℕ) → t < len → getD ys (to + t) 0 ≡ f t
+  pub rest : (i : ℕ) → (i < to) ⊎ (to + len ≤ i) → getD ys i 0 ≡ getD xs i 0

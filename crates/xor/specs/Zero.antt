@@ -1,0 +1,19 @@
+-- WHAT IS ASKED OF A BLOCK: whether it is zero, and how many of its bits are 1. Definitions only.
+use mathlib.Core.Path.{_≡_}
+use mathlib.Core.Bool.{Bool, true}
+use mathlib.Core.List.{List}
+use Prim.Native.Nat.{ℕ, _*_, _≤_, _<_}
+use lib.ListN.{getD}
+use lib.Count.{ones}
+use Rattle.xor.specs.Total.{total}
+use Rattle.xor.specs.Block.{longest}
+
+-- r says whether the first len bytes are all 0
+pub record Zero (xs : List ℕ) (len : ℕ) (r : Bool) : Type 0 where
+  pub yes : r ≡ true → (t : ℕ) → t < len → getD xs t 0 ≡ 0
+  pub no : ((t : ℕ) → t < len → getD xs t 0 ≡ 0) → r ≡ true
+
+-- r says how many bits of the first len bytes are 1: no more than 8 in each byte of a longest block
+pub record Ones (xs : List ℕ) (len r : ℕ) : Type 0 where
+  pub sum : r ≡ total len (λ t. ones (getD xs t 0))
+  pub most : r ≤ 8 * longest
