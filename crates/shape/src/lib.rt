@@ -159,11 +159,12 @@ impl Shape {
         self.mirrored(height)
     }
 
-    // Which symbol of its column has this height, counted from the start of the column.
+    // Which symbol of its column has this height, counted from the start of the column; whoever calls it asks for a height of the shape.
     pub fn slot(self, height: usize) -> usize
+        requires { ⌜ height < self .m ⌝ }
         ensures { λ r. ⌜ r ≡ slot self height ⌝ }
     {
-        self.row(height)
+        self.m - 1 - height
     }
 
     // How many bytes a column has; whoever calls it has had `refusal` answer Done.

@@ -26,7 +26,7 @@ check-some sh s =
 -- ---- none of them
 
 -- what a test that fails at each number below k leaves
-some-false : (k : ℕ) (f : ℕ → Bool) → (some k f ≡ false) ↔ ((i : ℕ) → i < k → f i ≡ false)
+pub some-false : (k : ℕ) (f : ℕ → Bool) → (some k f ≡ false) ↔ ((i : ℕ) → i < k → f i ≡ false)
 unfolding some
 some-false zero f = ((λ e i h. absurd (omega arith)), (λ h. refl))
 some-false (suc k) f = let ih = some-false k f in (

@@ -17,3 +17,4 @@ pub mod Symbols
 pub mod StruckOutcome
 pub mod SetLaws
 pub mod CarriedLaws
+pub mod Counting

@@ -3,12 +3,14 @@
 use shape::Answer;
 
 mod chain;
+mod checking;
 mod columns;
 mod encoding;
 mod refusing;
 mod storing;
 mod writing;
 
+pub use checking::check;
 pub use columns::column;
 pub use encoding::encode;
 pub use storing::raw_store;

@@ -3,3 +3,4 @@ pub mod XorsLaws
 pub mod TotalLaws
 pub mod Span
 pub mod Upto
+pub mod OnesLaws
