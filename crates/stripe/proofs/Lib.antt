@@ -18,3 +18,4 @@ pub mod StruckOutcome
 pub mod SetLaws
 pub mod CarriedLaws
 pub mod Counting
+pub mod LocatingLaws

@@ -9,3 +9,4 @@ pub mod Progress
 pub mod Handed
 pub mod Set
 pub mod Carried
+pub mod Locating

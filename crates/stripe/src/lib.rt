@@ -6,6 +6,7 @@ mod chain;
 mod checking;
 mod columns;
 mod encoding;
+mod locating;
 mod refusing;
 mod storing;
 mod writing;
@@ -13,6 +14,7 @@ mod writing;
 pub use checking::check;
 pub use columns::column;
 pub use encoding::encode;
+pub use locating::locate;
 pub use storing::raw_store;
 pub use writing::small_write;
 
