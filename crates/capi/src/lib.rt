@@ -1,11 +1,19 @@
 // The calls for programs in other languages: numbers as themselves, a slice as a pointer and its length.
 // Each is the call that it is named after, with the number of its answer.
+ghost use mathlib.Core.Path.{_≡_};
 ghost use Rattle.shape.specs.Good.{shape};
 ghost use Rattle.shape.specs.Answers.{stripe-table};
 ghost use Rattle.shape.specs.Outcome.{Outcome};
 ghost use Rattle.stripe.specs.Encode.{Encoded};
+ghost use Rattle.stripe.specs.declared.Checked.{Checked};
+ghost use Rattle.stripe.specs.declared.Located.{Located};
+ghost use Rattle.stripe.specs.Check.{Check};
+ghost use Rattle.stripe.specs.Locate.{Locate, found};
 use shape::Shape;
+use stripe::Damage;
+use stripe::check;
 use stripe::encode;
+use stripe::locate;
 
 // Sets every parity symbol of the stripe; gives the number of the answer.
 #[no_mangle]
@@ -14,4 +22,27 @@ pub extern "C" fn bangsorut_encode(m: usize, n: usize, w: usize, bytes: &mut [u8
 {
     let answer = encode(Shape { m: m, n: n, w: w }, bytes);
     answer.number()
+}
+
+// How many bits the chains of the stripe differ by, as check reports them.
+#[no_mangle]
+pub extern "C" fn bangsorut_check(m: usize, n: usize, w: usize, bytes: &[u8]) -> usize
+    ensures { λ r. ⌜ ((report : Checked) × Check (shape m n w) (now (bytes .entry)) report × (r ≡ report .bits)) ⌝ }
+{
+    let report = check(Shape { m: m, n: n, w: w }, bytes);
+    report.bits
+}
+
+// What locate finds: 0 sound, 1 one column, 2 more.
+#[no_mangle]
+pub extern "C" fn bangsorut_locate(m: usize, n: usize, w: usize, bytes: &[u8]) -> usize
+    ensures { λ r. ⌜ ((report : Located) × Locate (shape m n w) (now (bytes .entry)) report × (r ≡ found (report .damage) .0)) ⌝ }
+{
+    let report = locate(Shape { m: m, n: n, w: w }, bytes);
+    let damage = report.damage;
+    match damage {
+        Damage::Sound => 0,
+        Damage::Column(_) => 1,
+        Damage::Several => 2,
+    }
 }

@@ -32,7 +32,7 @@ fn tally(sum: usize, sh: Shape, s: &[u8], wk: Walk, from: usize, len: usize) -> 
 // How many bits chain p differs by.
 fn chain_bits(sh: Shape, s: &[u8], p: usize) -> usize
     requires { ⌜ (Good sh) × (p < sh .n) × (length (now s) ≡ size sh) ⌝ }
-    ensures { λ r. ⌜ (r ≡ total (sh .w) (λ t. ones (differs sh (now (s .entry)) p t))) × (r ≤ 70000) ⌝ }
+    ensures { λ r. ⌜ (r ≡ total (sh .w) (λ t. ones (differs sh (now (s .entry)) p t))) × (r ≤ 90000) ⌝ }
 {
     let w = sh.w;
     let full = w - w % 128;
@@ -47,8 +47,13 @@ fn chain_bits(sh: Shape, s: &[u8], p: usize) -> usize
         sum = tally(sum, sh, s, wk, from, 64);
         from += 64;
     }
-    if from < w {
-        sum = tally(sum, sh, s, wk, from, w - from);
+    while w - from >= 16 {
+        sum = tally(sum, sh, s, wk, from, 16);
+        from += 16;
+    }
+    while from < w {
+        sum = tally(sum, sh, s, wk, from, 1);
+        from += 1;
     }
     sum
 }

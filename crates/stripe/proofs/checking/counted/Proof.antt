@@ -15,7 +15,7 @@ use Rattle.stripe.proofs.checking.counted.Tie as tie
 
 abbrev Inv-loop : tie.InvT-loop
 Inv-loop sh s n broken₀ bits₀ p₀ broken sum p =
-    (p ≤ n) × (broken ≤ p) × (sum ≤ 70000 * p) × (broken ≡ count p (breaks sh s)) × (sum ≡ total p (λ q. bits sh s q (sh .w)))
+    (p ≤ n) × (broken ≤ p) × (sum ≤ 90000 * p) × (broken ≡ count p (breaks sh s)) × (sum ≡ total p (λ q. bits sh s q (sh .w)))
 
 abbrev μ-loop : tie.MeasureT-loop
 μ-loop sh s n broken₀ bits₀ p₀ broken sum p = n - p

@@ -1,0 +1,34 @@
+-- `bangsorut_locate` is the first number of what locate finds.
+use mathlib.Core.Path.{ap, sym}
+use borrow.Author.Needs.{needs}
+use Rattle.stripe.specs.declared.Damage.{Damage}
+use Rattle.stripe.specs.Locate.{found}
+use Rattle.capi.proofs.bangsorut_locate.Statement.{statement}
+use Rattle.capi.proofs.bangsorut_locate.Tie as tie
+
+locate-requires : tie.Need-locate-requires
+locate-requires c κs = search needs
+
+enum-told : tie.Need-enum-told
+enum-told c = search needs
+
+enum-told-2 : tie.Need-enum-told-2
+enum-told-2 c = search needs
+
+enum-told-3 : tie.Need-enum-told-3
+enum-told-3 c = search needs
+
+returns : tie.Need-returns
+unfolding found
+returns c = (c .before .before .locate .result, c .before .before .locate .ensures, sym (ap (λ (d : Damage). found d .0) (c .enum-told .given .1)))
+
+returns-2 : tie.Need-returns-2
+unfolding found
+returns-2 c = (c .before .before .locate .result, c .before .before .locate .ensures, sym (ap (λ (d : Damage). found d .0) (c .enum-told2 .given .1)))
+
+returns-3 : tie.Need-returns-3
+unfolding found
+returns-3 c = (c .before .before .locate .result, c .before .before .locate .ensures, sym (ap (λ (d : Damage). found d .0) (c .enum-told3 .given .1)))
+
+pub bangsorut-locate-spec : {M : Type 1} → statement M
+bangsorut-locate-spec = tie.close (tie.spec locate-requires enum-told enum-told-2 enum-told-3 returns returns-2 returns-3)
