@@ -1,0 +1,64 @@
+-- What each call has to answer here: it has one outcome, and the case on the list is it.
+use mathlib.Core.Path.{_≡_, refl, ap, subst}
+use mathlib.Core.List.{List, [], _∷_}
+use Prim.Native.Nat.{ℕ}
+use Rattle.shape.specs.declared.Shape.{Shape}
+use Rattle.shape.specs.declared.Answer.{Answer}
+use Rattle.shape.specs.declared.Answer.the-variants.{Done}
+use Rattle.shape.specs.Answers.{number}
+use Rattle.stripe.specs.declared.Checked.{Checked}
+use Rattle.stripe.specs.declared.Located.{Located}
+use Rattle.stripe.specs.declared.Damage.{Damage}
+use Rattle.stripe.specs.Encode.{Encode}
+use Rattle.stripe.specs.Check.{Check}
+use Rattle.stripe.specs.Locate.{Locate}
+use Rattle.stripe.specs.Write.{SmallWrite}
+use Rattle.stripe.specs.Store.{RawStore}
+use Rattle.stripe.proofs.EncodeLaws.{encode-one}
+use Rattle.stripe.proofs.CheckLaws.{check-one}
+use Rattle.stripe.proofs.LocateLaws.{locate-one}
+use Rattle.stripe.proofs.WriteLaws.{write-one}
+use Rattle.stripe.proofs.StoreLaws.{store-one}
+use Rattle.demands.specs.Cases.{Case, Holds, woven, five, sh₅, information, parity, stripe₅}
+use Rattle.demands.proofs.Five.{p5}
+
+-- the shape and the stripe of a call put in their places
+at₅ : (K : Shape → List ℕ → Type 0) (sh : Shape) (s z : List ℕ) → sh ≡ sh₅ → s ≡ z → K sh s → K sh₅ z
+at₅ K sh s z e i h = subst (λ (k : Shape). K k z) e (subst (λ (k : List ℕ). K sh k) i h)
+
+zero : (a : Answer) → a ≡ Done → number a ≡ 0
+unfolding number
+zero a e = ap number e
+
+-- the information of P5 over a parity of EE
+abbrev pub raw : List ℕ
+raw = 1 ∷ 238 ∷ 2 ∷ 238 ∷ 4 ∷ 238 ∷ 8 ∷ 238 ∷ 16 ∷ 238 ∷ []
+
+pub encode-told : (sh : Shape) (a : Answer) (x : List ℕ) → sh ≡ sh₅ → Encode sh raw a x → (number a ≡ 0) × (x ≡ stripe₅)
+unfolding woven information parity stripe₅
+encode-told sh a x e h =
+    let one = encode-one sh₅ raw a Done x stripe₅ (at₅ (λ k z. Encode k z a x) sh raw raw e refl h) (p5 238 238 238 238 238) in
+    (zero a (one .0), one .1)
+
+pub write-told : (sh : Shape) (s z : List ℕ) (c r : ℕ) (new left : List ℕ) (a : Answer) (x : List ℕ) → sh ≡ sh₅ → s ≡ z → Holds (Case.small-writes sh₅ z c r new left)
+    → SmallWrite sh s c r new a x → (number a ≡ 0) × (x ≡ left)
+write-told sh s z c r new left a x e i p h =
+    let one = write-one sh₅ z c r new a Done x left (at₅ (λ k y. SmallWrite k y c r new a x) sh s z e i h) p in
+    (zero a (one .0), one .1)
+
+pub store-told : (sh : Shape) (s z : List ℕ) (c r : ℕ) (new left : List ℕ) (a : Answer) (x : List ℕ) → sh ≡ sh₅ → s ≡ z → Holds (Case.raw-stores sh₅ z c r new left)
+    → RawStore sh s c r new a x → (number a ≡ 0) × (x ≡ left)
+store-told sh s z c r new left a x e i p h =
+    let one = store-one sh₅ z c r new a Done x left (at₅ (λ k y. RawStore k y c r new a x) sh s z e i h) p in
+    (zero a (one .0), one .1)
+
+pub check-told : (sh : Shape) (s z : List ℕ) (broken bits : ℕ) (r : Checked) → sh ≡ sh₅ → s ≡ z → Holds (Case.counts sh₅ z broken bits)
+    → Check sh s r → (r .broken ≡ broken) × (r .bits ≡ bits)
+check-told sh s z broken bits r e i p h =
+    let one = check-one sh₅ z r (record { answer = Done; broken = broken; bits = bits }) (at₅ (λ k y. Check k y r) sh s z e i h) p in
+    (ap (λ (k : Checked). k .broken) one, ap (λ (k : Checked). k .bits) one)
+
+pub locate-told : (sh : Shape) (s z : List ℕ) (damage : Damage) (r : Located) → sh ≡ sh₅ → s ≡ z → Holds (Case.finds sh₅ z damage)
+    → Locate sh s r → r .damage ≡ damage
+locate-told sh s z damage r e i p h =
+    ap (λ (k : Located). k .damage) (locate-one sh₅ z r (record { answer = Done; damage = damage }) (at₅ (λ k y. Locate k y r) sh s z e i h) p)
