@@ -1,8 +1,8 @@
 // The small stripes by hand, P5, P8, P9 and P10 of the rules, through the public calls.
 // Each check follows from the contracts: it is proved, and the run shows what a person would work out on paper.
 ghost use mathlib.Core.Path.{_≡_};
-ghost use mathlib.Core.Bool.{true};
 ghost use Rattle.stripe.specs.declared.Damage.the-variants.{Column, Several};
+ghost use Rattle.stripe.specs.Locating.{Tells};
 ghost use Rattle.demands.specs.Cases.{stripe₅, cleared-0, flipped-0-1, sh₅};
 use check::expect;
 use check::same;
@@ -54,7 +54,7 @@ fn written() {
 
 // Whether the damage is in this one column.
 fn names(damage: Damage, column: usize) -> bool
-    ensures { λ r. ⌜ (damage ≡ Column column → r ≡ true) ⌝ }
+    ensures { λ r. ⌜ Tells (damage ≡ Column column) r ⌝ }
 {
     match damage {
         Damage::Sound => false,
@@ -65,7 +65,7 @@ fn names(damage: Damage, column: usize) -> bool
 
 // Whether no single column explains the damage.
 fn several(damage: Damage) -> bool
-    ensures { λ r. ⌜ (damage ≡ Several → r ≡ true) ⌝ }
+    ensures { λ r. ⌜ Tells (damage ≡ Several) r ⌝ }
 {
     match damage {
         Damage::Sound => false,

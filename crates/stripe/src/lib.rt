@@ -1,5 +1,5 @@
 // The calls on a whole stripe: encode, check, locate, column, small write, raw store.
-// Their reports stand here, and specs/ has the contract of each; the code of the calls follows.
+// The reports stand here, each call in a file of its own, and its contract in specs/ under its name.
 use shape::Answer;
 
 mod chain;

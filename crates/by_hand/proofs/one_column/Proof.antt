@@ -43,7 +43,7 @@ names-requires c κs = search needs
 expect-requires-3 : tie.Need-expect-requires-3
 expect-requires-3 c κs =
     let l = c .before in
-    c .names .ensures
+    c .names .ensures .no
     (locate-told _ _ _ _ _ (l .before .before .five2 .ensures) (l .before .before .before .before .before .before .before .before .before .before .cleared .ensures) find₉ (l .locate .ensures))
 
 slice-aggregate-show : tie.Need-slice-aggregate-show

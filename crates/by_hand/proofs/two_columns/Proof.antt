@@ -38,7 +38,7 @@ several-requires c κs = search needs
 expect-requires-2 : tie.Need-expect-requires-2
 expect-requires-2 c κs =
     let l = c .before in
-    c .several .ensures
+    c .several .ensures .no
     (locate-told _ _ _ _ _ (l .before .before .five2 .ensures) (l .before .before .before .before .before .before .before .before .flipped .ensures) find₁₀ (l .locate .ensures))
 
 slice-aggregate-show : tie.Need-slice-aggregate-show
