@@ -6,17 +6,17 @@ use Rattle.shape.specs.declared.Shape.{Shape}
 use Rattle.shape.specs.declared.Answer.{Answer}
 use Rattle.shape.specs.declared.Answer.the-variants.{Done}
 use Rattle.shape.specs.Answers.{number}
-use Rattle.stripe.specs.declared.Checked.{Checked}
-use Rattle.stripe.specs.declared.Located.{Located}
-use Rattle.stripe.specs.declared.Damage.{Damage}
-use Rattle.stripe.specs.Encode.{Encode}
-use Rattle.stripe.specs.Check.{Check}
-use Rattle.stripe.specs.Locate.{Locate}
+use Rattle.checking.specs.declared.Checked.{Checked}
+use Rattle.locating.specs.declared.Located.{Located}
+use Rattle.locating.specs.declared.Damage.{Damage}
+use Rattle.encoding.specs.Encode.{Encode}
+use Rattle.checking.specs.Check.{Check}
+use Rattle.locating.specs.Locate.{Locate}
 use Rattle.stripe.specs.Write.{SmallWrite}
 use Rattle.stripe.specs.Store.{RawStore}
-use Rattle.stripe.proofs.EncodeLaws.{encode-one}
-use Rattle.stripe.proofs.CheckLaws.{check-one}
-use Rattle.stripe.proofs.LocateLaws.{locate-one}
+use Rattle.encoding.proofs.EncodeLaws.{encode-one}
+use Rattle.checking.proofs.CheckLaws.{check-one}
+use Rattle.locating.proofs.LocateLaws.{locate-one}
 use Rattle.stripe.proofs.WriteLaws.{write-one}
 use Rattle.stripe.proofs.StoreLaws.{store-one}
 use Rattle.demands.specs.Cases.{Case, Holds, woven, five, sh₅, information, parity, stripe₅}

@@ -1,13 +1,13 @@
 // The small stripes by hand, P5, P8, P9 and P10 of the rules, through the public calls.
 // Each check follows from the contracts: it is proved, and the run shows what a person would work out on paper.
 ghost use mathlib.Core.Path.{_≡_};
-ghost use Rattle.stripe.specs.declared.Damage.the-variants.{Column, Several};
-ghost use Rattle.stripe.specs.Locating.{Tells};
+ghost use Rattle.locating.specs.declared.Damage.the-variants.{Column, Several};
+ghost use Rattle.xor.specs.Asked.{Tells};
 ghost use Rattle.demands.specs.Cases.{stripe₅, cleared-0, flipped-0-1, sh₅};
 use check::expect;
 use check::same;
+use locating::Damage;
 use shape::Shape;
-use stripe::Damage;
 
 // (2, 5), with symbols of one byte.
 fn five() -> Shape
@@ -38,7 +38,7 @@ fn encoded() -> [u8; 10]
     ensures { λ r. ⌜ r ≡ stripe₅ ⌝ }
 {
     let mut stripe = [1u8, 238, 2, 238, 4, 238, 8, 238, 16, 238];
-    let answer = stripe::encode(five(), &mut stripe);
+    let answer = encoding::encode(five(), &mut stripe);
     expect(answer.number() == 0);
     stripe
 }
@@ -87,10 +87,10 @@ fn cleared() -> [u8; 10]
 // P9: two chains are broken, by one bit each, and column 0 explains it.
 fn one_column() {
     let stripe = cleared();
-    let counts = stripe::check(five(), &stripe);
+    let counts = checking::check(five(), &stripe);
     expect(counts.broken == 2);
     expect(counts.bits == 2);
-    let report = stripe::locate(five(), &stripe);
+    let report = locating::locate(five(), &stripe);
     let damage = report.damage;
     expect(names(damage, 0));
     show(
@@ -112,9 +112,9 @@ fn flipped() -> [u8; 10]
 // P10: four chains are broken, and no column explains it.
 fn two_columns() {
     let stripe = flipped();
-    let counts = stripe::check(five(), &stripe);
+    let counts = checking::check(five(), &stripe);
     expect(counts.broken == 4);
-    let report = stripe::locate(five(), &stripe);
+    let report = locating::locate(five(), &stripe);
     let damage = report.damage;
     expect(several(damage));
     show(

@@ -4,16 +4,16 @@ ghost use mathlib.Core.Path.{_≡_};
 ghost use Rattle.shape.specs.Good.{shape};
 ghost use Rattle.shape.specs.Answers.{stripe-table};
 ghost use Rattle.shape.specs.Outcome.{Outcome};
-ghost use Rattle.stripe.specs.Encode.{Encoded};
-ghost use Rattle.stripe.specs.declared.Checked.{Checked};
-ghost use Rattle.stripe.specs.declared.Located.{Located};
-ghost use Rattle.stripe.specs.Check.{Check};
-ghost use Rattle.stripe.specs.Locate.{Locate, found};
+ghost use Rattle.encoding.specs.Encode.{Encoded};
+ghost use Rattle.checking.specs.declared.Checked.{Checked};
+ghost use Rattle.locating.specs.declared.Located.{Located};
+ghost use Rattle.checking.specs.Check.{Check};
+ghost use Rattle.locating.specs.Locate.{Locate, found};
+use checking::check;
+use encoding::encode;
+use locating::Damage;
+use locating::locate;
 use shape::Shape;
-use stripe::Damage;
-use stripe::check;
-use stripe::encode;
-use stripe::locate;
 
 // Sets every parity symbol of the stripe; gives the number of the answer.
 #[no_mangle]

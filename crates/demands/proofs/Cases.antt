@@ -14,12 +14,12 @@ use Rattle.shape.specs.Good.{size, Good, shape}
 use Rattle.shape.specs.Place.{row, slot, place, byte}
 use Rattle.shape.specs.Step.{left, right}
 use Rattle.shape.specs.Answers.{number}
-use Rattle.shape.specs.Prices.{encode-price, one-price, two-price, symbols-read}
-use Rattle.shape.specs.Stock.{stock, stock-table, zero-shape}
+use Rattle.stock.specs.Prices.{encode-price, one-price, two-price, symbols-read}
+use Rattle.stock.specs.Stock.{stock, stock-table, zero-shape}
 use Rattle.shape.proofs.GoodLaws.{shape-2, shape-3, shape-done}
 use Rattle.rule.specs.Rule.{others, chain, differs, mark}
 use Rattle.rule.specs.Outer.{walk, first}
-use Rattle.stripe.specs.Check.{some, count, breaks, broken-chains, differing-bits}
+use Rattle.checking.specs.Check.{some, count, breaks, broken-chains, differing-bits}
 use Rattle.demands.specs.Cases.{Case, Holds, xor-at, chains-with, cases, Cases-hold}
 use Rattle.demands.proofs.Five.{p5, p6, p7, p8, store₉, store₁₀, counted, counts₅, find₉, find₁₀}
 use Rattle.demands.proofs.Read.{fills₅, chooses₅, hands-out₅}

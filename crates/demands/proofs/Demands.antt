@@ -7,8 +7,8 @@ use Rattle.shape.specs.declared.Answer.the-variants.{Done, Disagree}
 use Rattle.shape.proofs.AnswersLaws.{number-done}
 use Rattle.shape.proofs.GoodLaws.{good-m, good-room}
 use Rattle.rule.proofs.SolvesLaws.{solves-one}
-use Rattle.stripe.proofs.Explains.{explains-is-mends}
-use Rattle.stripe.proofs.LocateLaws.{mends-one}
+use Rattle.locating.proofs.Explains.{explains-is-mends}
+use Rattle.locating.proofs.LocateLaws.{mends-one}
 use Rattle.rebuild.proofs.RebuildLaws.{rebuild-otherwise, rebuild-decides, rebuild-solves, rebuild-old-bytes, rebuild-either}
 use Rattle.demands.specs.Sequences.{Request, Served}
 use Rattle.demands.specs.Demands.{Zero-after, Comes-back, Rebuild-exactly, One-stripe, Either-order, One-explains, One-damaged-column, Old-bytes}

@@ -22,12 +22,12 @@ use Rattle.rule.specs.declared.Losses.the-variants.{One, Two}
 use Rattle.rule.specs.Rule.{others, chain, differs}
 use Rattle.rule.specs.Losses.{Beyond, Twice, Bytes, Solves}
 use Rattle.rule.specs.Outer.{walk, first}
-use Rattle.stripe.specs.declared.Damage.{Damage}
-use Rattle.stripe.specs.Check.{some, count, breaks, broken-chains, differing-bits}
-use Rattle.stripe.specs.Locate.{found}
+use Rattle.locating.specs.declared.Damage.{Damage}
+use Rattle.checking.specs.Check.{some, count, breaks, broken-chains, differing-bits}
+use Rattle.locating.specs.Locate.{found}
 use Rattle.stripe.specs.Write.{write-table}
 use Rattle.stripe.specs.Store.{store-table}
-use Rattle.stripe.proofs.Explains.{explains-is-mends}
+use Rattle.locating.proofs.Explains.{explains-is-mends}
 use Rattle.rebuild.specs.Rebuild.{rebuild-table}
 use Rattle.demands.specs.Cases.{Case, Holds, woven, five, sh₅, information, parity, stripe₅, lost-0-2, lost-4-0, cleared-0, flipped-0-1}
 use Rattle.demands.proofs.Tests.{all, all-true, obeys-test, obeys-by, disobeys-by, pairs-test, away-test, explains-test, explains-by, same-test, same-by, lost-test, agrees-by, bytes-by, struck-test, struck-not}

@@ -1,9 +1,9 @@
 -- One answer for each call: the law of its floor.
-use Rattle.shape.proofs.PricesLaws.{prices-one}
-use Rattle.shape.proofs.StockLaws.{stock-one}
-use Rattle.stripe.proofs.EncodeLaws.{encode-one}
-use Rattle.stripe.proofs.CheckLaws.{check-one}
-use Rattle.stripe.proofs.LocateLaws.{locate-one}
+use Rattle.stock.proofs.PricesLaws.{prices-one}
+use Rattle.stock.proofs.StockLaws.{stock-one}
+use Rattle.encoding.proofs.EncodeLaws.{encode-one}
+use Rattle.checking.proofs.CheckLaws.{check-one}
+use Rattle.locating.proofs.LocateLaws.{locate-one}
 use Rattle.stripe.proofs.WriteLaws.{write-one}
 use Rattle.stripe.proofs.StoreLaws.{store-one}
 use Rattle.stripe.proofs.ColumnLaws.{column-one}

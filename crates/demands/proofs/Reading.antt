@@ -8,15 +8,15 @@ use lib.ListN.{getD}
 use Rattle.shape.specs.Place.{height, row, slot, column-length, place, byte}
 use Rattle.shape.proofs.AnswersLaws.{first-lowest}
 use Rattle.shape.proofs.GoodLaws.{good-m, good-room, good-wide, shape-done, shape-rises, stripe-rises}
-use Rattle.shape.proofs.StockLaws
+use Rattle.stock.proofs.StockLaws
 use Rattle.rule.specs.declared.Losses.the-variants.{Two}
 use Rattle.rule.proofs.RuleLaws.{chain-apart, mark-in, mark-out}
 use Rattle.rule.specs.Losses.{Beyond}
 use Rattle.rule.proofs.OrderLaws
 use Rattle.rule.proofs.Reading.{two-order}
 use Rattle.rule.proofs.OuterLaws.{outer-one, outer-some, outer-from, outer-from-one}
-use Rattle.stripe.proofs.CheckLaws
-use Rattle.stripe.proofs.Explains
+use Rattle.checking.proofs.CheckLaws
+use Rattle.locating.proofs.Explains
 use Rattle.stripe.proofs.Parities
 use Rattle.stripe.proofs.WriteLaws.{write-rises}
 use Rattle.stripe.proofs.StoreLaws.{store-rises}

@@ -8,11 +8,11 @@ use lib.ListN.{length}
 use lib.Dec.{eqb}
 use borrow.Author.Tests.{eq-eqb, ne-eqb}
 use Rattle.shape.specs.declared.Answer.{Answer}
-use Rattle.shape.proofs.PricesLaws.{prices-some}
-use Rattle.shape.proofs.StockLaws.{stock-some}
-use Rattle.stripe.proofs.EncodeLaws.{encode-some}
-use Rattle.stripe.proofs.CheckLaws.{check-some}
-use Rattle.stripe.proofs.LocateLaws.{locate-some}
+use Rattle.stock.proofs.PricesLaws.{prices-some}
+use Rattle.stock.proofs.StockLaws.{stock-some}
+use Rattle.encoding.proofs.EncodeLaws.{encode-some}
+use Rattle.checking.proofs.CheckLaws.{check-some}
+use Rattle.locating.proofs.LocateLaws.{locate-some}
 use Rattle.stripe.proofs.WriteLaws.{write-some}
 use Rattle.stripe.proofs.StoreLaws.{store-some}
 use Rattle.stripe.proofs.ColumnLaws.{column-some}

@@ -18,7 +18,7 @@ use Rattle.rule.specs.declared.Losses.the-variants.{None, One, Two}
 use Rattle.rule.specs.Rule.{Obeys, differs}
 use Rattle.rule.specs.Losses.{Lost, Agrees, Bytes}
 use Rattle.rule.proofs.RuleLaws.{obeys-differs}
-use Rattle.stripe.specs.Locate.{Explains}
+use Rattle.locating.specs.Locate.{Explains}
 
 -- ---- a test of each number below k
 

@@ -13,17 +13,17 @@ use Rattle.shape.specs.declared.Answer.the-variants.{Done, NoSuchStock}
 use Rattle.shape.specs.Good.{Within, symbol, Good, shape}
 use Rattle.shape.specs.Place.{column-length}
 use Rattle.shape.specs.Answers.{First, shape-table}
-use Rattle.shape.specs.Prices.{Prices}
-use Rattle.shape.specs.Stock.{Stock, zero-shape}
+use Rattle.stock.specs.Prices.{Prices}
+use Rattle.stock.specs.Stock.{Stock, zero-shape}
 use Rattle.rule.specs.declared.Losses.{Losses}
 use Rattle.rule.specs.declared.Losses.the-variants.{None, One, Two}
 use Rattle.rule.specs.Rule.{Grid, others, chain, mark}
 use Rattle.rule.specs.Outer.{first}
-use Rattle.stripe.specs.declared.Damage.{Damage}
-use Rattle.stripe.specs.declared.Damage.the-variants.{Column, Several}
-use Rattle.stripe.specs.Encode.{Encode}
-use Rattle.stripe.specs.Check.{Check}
-use Rattle.stripe.specs.Locate.{Locate}
+use Rattle.locating.specs.declared.Damage.{Damage}
+use Rattle.locating.specs.declared.Damage.the-variants.{Column, Several}
+use Rattle.encoding.specs.Encode.{Encode}
+use Rattle.checking.specs.Check.{Check}
+use Rattle.locating.specs.Locate.{Locate}
 use Rattle.stripe.specs.Write.{SmallWrite}
 use Rattle.stripe.specs.Store.{RawStore}
 use Rattle.stripe.specs.Column.{ColumnRead}

@@ -12,7 +12,7 @@ use Rattle.rule.specs.declared.Losses.{Losses}
 use Rattle.rule.specs.declared.Losses.the-variants.{Two}
 use Rattle.rule.specs.Rule.{Obeys}
 use Rattle.rule.specs.Losses.{Beyond, Twice, Agrees, Bytes, Solves, Disagrees}
-use Rattle.stripe.specs.Locate.{Mends, Explains}
+use Rattle.locating.specs.Locate.{Mends, Explains}
 use Rattle.rebuild.specs.Rebuild.{Otherwise-good, Rebuild, Cleared}
 use Rattle.demands.specs.Sequences.{Buffers, Request, rebuild, answered, Served, World, Event, Step, History, final, asked, saw, Only-of}
 

@@ -14,14 +14,14 @@ use Rattle.shape.specs.Good.{Good, size}
 use Rattle.shape.specs.Place.{height, column-length, byte, column}
 use Rattle.shape.specs.Step.{left, right}
 use Rattle.shape.specs.Answers.{Table, First, Applies, Rises, shape-table, stripe-table}
-use Rattle.shape.specs.Stock.{stock, zero-shape, stock-table}
+use Rattle.stock.specs.Stock.{stock, zero-shape, stock-table}
 use Rattle.rule.specs.declared.Losses.{Losses}
 use Rattle.rule.specs.declared.Losses.the-variants.{One, Two}
 use Rattle.rule.specs.Rule.{others, chain, mark, Obeys}
 use Rattle.rule.specs.Losses.{Beyond, Twice, Bytes}
 use Rattle.rule.specs.Outer.{walk, first, second, without, Outer}
-use Rattle.stripe.specs.Check.{broken-chains}
-use Rattle.stripe.specs.Locate.{Mends, Explains}
+use Rattle.checking.specs.Check.{broken-chains}
+use Rattle.locating.specs.Locate.{Mends, Explains}
 use Rattle.stripe.specs.Write.{SmallWrite, write-table}
 use Rattle.stripe.specs.Store.{store-table}
 use Rattle.stripe.specs.Column.{column-table}

@@ -8,3 +8,4 @@ pub mod Solution
 pub mod Reading
 pub mod OuterLaws
 pub mod SolvesLaws
+pub mod Information

@@ -5,8 +5,7 @@ pub mod ColumnLaws
 pub mod AnswersLaws
 pub mod GoodLaws
 pub mod OutcomeLaws
-pub mod PricesLaws
-pub mod StockLaws
 pub mod Fits
 pub mod Asked
 pub mod WalkLaws
+pub mod Spans

@@ -3,8 +3,6 @@ pub mod Place
 pub mod Step
 pub mod Answers
 pub mod Outcome
-pub mod Prices
-pub mod Stock
 pub mod Placed
 pub mod Walk
 pub mod Own

@@ -1,19 +1,13 @@
 // The shape record of a stripe: which shapes are good, where each symbol stands, which columns a chain goes through.
-// Also the answers of every call with their numbers, the stock shapes and the price list.
+// Also the answers of every call with their numbers.
 ghost use mathlib.Core.Path.{_≡_};
 ghost use Prim.Native.Nat.{_-_, _<_};
 ghost use Rattle.shape.specs.Good.{Good};
-ghost use Rattle.shape.specs.Answers.{First, shape-table, number};
+ghost use Rattle.shape.specs.Answers.{First, shape-table, stripe-table, number};
 ghost use Rattle.shape.specs.Place.{height, row, slot};
 ghost use Rattle.shape.specs.Placed.{Placed, ColumnSized, StripeSized, Stepped};
 ghost use Rattle.shape.specs.Step.{left, right};
 ghost use Rattle.shape.specs.Walk.{Ways, Walks};
-
-mod price_list;
-mod stock_shapes;
-
-pub use price_list::prices;
-pub use stock_shapes::stock;
 
 // The fewest rows of a shape.
 const FEWEST_ROWS: usize = 2;
@@ -74,32 +68,17 @@ pub enum Answer {
     NoShape,
 }
 
-// Where the symbols of a chain stand: below height `end` in the columns p - d and p + d, from there on in c - d and p + d - off.
+// Where the symbols of a chain stand: below height `end` in the columns p - d and p + d, from there on in l and r and then a column further apart each height.
 // The two of the top height start at x and y, the parity symbol at `at`.
 pub struct Walk {
     pub top: usize,
     pub p: usize,
-    pub c: usize,
-    pub off: usize,
+    pub l: usize,
+    pub r: usize,
     pub end: usize,
     pub x: usize,
     pub y: usize,
     pub at: usize,
-}
-
-// A shape's price list: what encoding and rebuilding cost in symbol XORs, and the symbols read for one column.
-pub struct Priced {
-    pub answer: Answer,
-    pub encode: usize,
-    pub one: usize,
-    pub two: usize,
-    pub reads: usize,
-}
-
-// A stock shape, or why there is none.
-pub struct Stocked {
-    pub answer: Answer,
-    pub shape: Shape,
 }
 
 impl Shape {
@@ -130,6 +109,20 @@ impl Shape {
         }
         if LARGEST_STRIPE < m * n * w {
             return Answer::BadSymbol;
+        }
+        Answer::Done
+    }
+
+    // The answer that the shape and the length of a stripe get: the first of BadRows, BadColumns, BadSymbol and BadStripe that applies, or Done.
+    pub fn stripe_refusal(self, stripe: &[u8]) -> Answer
+        ensures { λ r. ⌜ First (stripe-table self (now (stripe .entry))) (number r) ⌝ }
+    {
+        match self.refusal() {
+            Answer::Done => {}
+            answer => return answer,
+        }
+        if stripe.len() != self.stripe_length() {
+            return Answer::BadStripe;
         }
         Answer::Done
     }
@@ -209,25 +202,25 @@ impl Shape {
         (column + height) % n
     }
 
-    // The walk of chain p that from height `end` on goes through the columns c - d and p + d - off; `walk` finds these for it.
-    fn walk_through(self, p: usize, c: usize, off: usize, end: usize) -> Walk
-        requires { ⌜ (Good self) × (end < self .m) × (Ways self p p 0 1 end) × (Ways self p c off end (self .m)) ⌝ }
+    // The walk of chain p that from height `end` on goes on from the columns l and r, with its top pair in columns a and b; `walk` finds these for it.
+    fn walk_through(self, p: usize, l: usize, r: usize, end: usize, a: usize, b: usize) -> Walk
+        requires { ⌜ (Good self) × (Ways self p p p 0 1 end) × (Ways self p l r end end (self .m - 1)) × (a ≡ left (self .n) p (self .m - 1)) × (b ≡ right (self .n) p (self .m - 1)) ⌝ }
         ensures { λ r. ⌜ (Walks self (r .p) r) × (r .p ≡ p) ⌝ }
     {
         let top = self.m - 1;
         Walk {
             top: top,
             p: p,
-            c: c,
-            off: off,
+            l: l,
+            r: r,
             end: end,
-            x: self.place(top, c - top),
-            y: self.place(top, p + top - off),
+            x: self.place(top, a),
+            y: self.place(top, b),
             at: self.place(0, p),
         }
     }
 
-    // The walk of a chain: with a wrap on the left, with one on the right, or with none.
+    // The walk of a chain: with a wrap on the left, with none, or with one on the right.
     // Whoever calls it has had `refusal` answer Done, and asks for a chain of the shape.
     pub fn walk(self, p: usize) -> Walk
         requires { ⌜ (Good self) × (p < self .n) ⌝ }
@@ -236,13 +229,13 @@ impl Shape {
         let n = self.n;
         let top = self.m - 1;
         if p < top {
-            return self.walk_through(p, p + n, 0, p + 1);
+            return self.walk_through(p, n - 1, p + p + 1, p + 1, p + n - top, p + top);
         }
-        let after = n - 1 - p;
-        if after < top {
-            return self.walk_through(p, p, n, after + 1);
+        if p + top < n {
+            return self.walk_through(p, p, p, top, p - top, p + top);
         }
-        self.walk_through(p, p, 0, top)
+        let past = n - p;
+        self.walk_through(p, p - past, 0, past, p - top, p + top - n)
     }
 }
 

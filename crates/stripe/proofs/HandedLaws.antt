@@ -15,7 +15,7 @@ use Rattle.shape.specs.Own.{PartOf}
 use Rattle.shape.proofs.GoodLaws.{stripe-pass}
 use Rattle.stripe.specs.Column.{column-table}
 use Rattle.stripe.specs.Handed.{Handed}
-use Rattle.stripe.proofs.RefusedLaws.{stripe-stop}
+use Rattle.shape.proofs.Asked.{stripe-stop}
 
 -- a column ends inside the stripe
 pub column-ends : (sh : Shape) (c : ℕ) → c < sh .n → c * column-length sh + column-length sh ≤ size sh

@@ -11,7 +11,7 @@ use Rattle.shape.specs.Good.{Good, size}
 use Rattle.shape.specs.Answers.{Table, First, stripe-table}
 use Rattle.shape.specs.Outcome.{Outcome}
 use Rattle.shape.proofs.GoodLaws.{stripe-pass}
-use Rattle.stripe.proofs.RefusedLaws.{stripe-stop}
+use Rattle.shape.proofs.Asked.{stripe-stop}
 
 -- the table of both
 abbrev pub struck-table : Shape → List ℕ → ℕ → ℕ → ℕ → List ℕ → Table

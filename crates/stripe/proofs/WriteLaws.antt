@@ -16,7 +16,7 @@ use Rattle.shape.proofs.OutcomeLaws.{call-one, call-some, stripe-ready-rest}
 use Rattle.rule.specs.Rule.{Grid, others, chain, differs}
 use Rattle.rule.proofs.ChainLaws.{others-cong}
 use Rattle.stripe.specs.Write.{write-table, Written, SmallWrite}
-use Rattle.stripe.proofs.Information.{by-information}
+use Rattle.rule.proofs.Information.{by-information}
 use Rattle.stripe.proofs.Struck.{struck, struck-here, struck-there, struck-same, struck-ready, struck-lt}
 
 module _ (sh : Shape) (s : List ℕ) (c r : ℕ) (z : List ℕ) where

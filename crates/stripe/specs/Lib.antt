@@ -1,12 +1,6 @@
-pub mod Encode
-pub mod Check
-pub mod Locate
 pub mod Write
 pub mod Store
 pub mod Column
-pub mod Chain
-pub mod Progress
 pub mod Handed
 pub mod Set
 pub mod Carried
-pub mod Locating

@@ -1,6 +1,5 @@
 // A column handed out: a part of the caller's own stripe.
 ghost use Rattle.stripe.specs.Handed.{Handed};
-use crate::refusing::refused;
 use shape::Answer;
 use shape::Shape;
 
@@ -8,7 +7,7 @@ use shape::Shape;
 pub fn column(shape: Shape, stripe: &[u8], column: usize) -> &[u8]
     ensures { λ r. ⌜ Handed shape (stripe .entry) column r ⌝ }
 {
-    match refused(shape, stripe) {
+    match shape.stripe_refusal(stripe) {
         Answer::Done => {}
         _ => return &stripe[0..0],
     }

@@ -5,7 +5,6 @@ ghost use lib.ListN.{length};
 ghost use Rattle.shape.specs.Good.{Good, size};
 ghost use Rattle.stripe.specs.Set.{Set};
 ghost use Rattle.stripe.specs.Store.{RawStore};
-use crate::refusing::refused;
 use shape::Answer;
 use shape::Shape;
 use xor::copy;
@@ -29,7 +28,7 @@ pub fn raw_store(
 ) -> Answer
     ensures { λ r. ⌜ RawStore shape (now (stripe .entry)) column row (now (symbol .entry)) r (now (stripe .exit)) ⌝ }
 {
-    match refused(shape, stripe) {
+    match shape.stripe_refusal(stripe) {
         Answer::Done => {}
         answer => return answer,
     }

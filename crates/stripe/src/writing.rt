@@ -5,7 +5,6 @@ ghost use lib.ListN.{length};
 ghost use Rattle.shape.specs.Good.{Good, size};
 ghost use Rattle.stripe.specs.Carried.{Carried};
 ghost use Rattle.stripe.specs.Write.{Written, SmallWrite};
-use crate::refusing::refused;
 use crate::storing::store;
 use shape::Answer;
 use shape::Shape;
@@ -44,7 +43,7 @@ pub fn small_write(
 ) -> Answer
     ensures { λ r. ⌜ SmallWrite shape (now (stripe .entry)) column row (now (symbol .entry)) r (now (stripe .exit)) ⌝ }
 {
-    match refused(shape, stripe) {
+    match shape.stripe_refusal(stripe) {
         Answer::Done => {}
         answer => return answer,
     }

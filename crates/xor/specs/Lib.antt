@@ -1,4 +1,4 @@
 pub mod Xor
 pub mod Total
 pub mod Block
-pub mod Zero
+pub mod Asked

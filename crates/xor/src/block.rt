@@ -6,7 +6,7 @@ ghost use lib.ListN.{length, getD};
 ghost use lib.Count.{ones};
 ghost use Rattle.xor.specs.Xor.{_⊕_};
 ghost use Rattle.xor.specs.Block.{longest, Block, Spanned};
-ghost use Rattle.xor.specs.Zero.{Zero, Ones};
+ghost use Rattle.xor.specs.Asked.{Tells, Zero, Ones};
 
 // The longest block.
 const LONGEST: usize = 128;
@@ -62,7 +62,7 @@ pub fn join(acc: &mut [u8; LONGEST], other: &[u8; LONGEST], len: usize)
 // Whether the first len bytes of acc are 0; whoever calls it stays within the block.
 pub fn none(acc: &[u8; LONGEST], len: usize) -> bool
     requires { ⌜ len ≤ longest ⌝ }
-    ensures { λ r. ⌜ Zero (now (acc .entry)) len r ⌝ }
+    ensures { λ r. ⌜ Tells (Zero (now (acc .entry)) len) r ⌝ }
 {
     let mut any = 0u8;
     let mut k = 0;

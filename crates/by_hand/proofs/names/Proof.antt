@@ -4,9 +4,9 @@ use mathlib.Core.Bool.{true≢false}
 use native.Mathlib.Omega.{arith}
 use borrow.Author.Needs.{needs}
 use borrow.Author.Tests.{eq-eqb, eqb-true}
-use Rattle.stripe.specs.declared.Damage.{Damage}
-use Rattle.stripe.specs.declared.Damage.the-variants.{Column}
-use Rattle.stripe.specs.Locate.{found}
+use Rattle.locating.specs.declared.Damage.{Damage}
+use Rattle.locating.specs.declared.Damage.the-variants.{Column}
+use Rattle.locating.specs.Locate.{found}
 use Rattle.by_hand.proofs.names.Statement.{statement}
 use Rattle.by_hand.proofs.names.Tie as tie
 

@@ -3,8 +3,8 @@ use mathlib.Core.Path.{refl, ap, sym, _∙_}
 use mathlib.Core.Bool.{true≢false}
 use native.Mathlib.Omega.{arith}
 use borrow.Author.Needs.{needs}
-use Rattle.stripe.specs.declared.Damage.{Damage}
-use Rattle.stripe.specs.Locate.{found}
+use Rattle.locating.specs.declared.Damage.{Damage}
+use Rattle.locating.specs.Locate.{found}
 use Rattle.by_hand.proofs.several.Statement.{statement}
 use Rattle.by_hand.proofs.several.Tie as tie
 

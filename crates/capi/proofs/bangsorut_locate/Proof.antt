@@ -1,8 +1,8 @@
 -- `bangsorut_locate` is the first number of what locate finds.
 use mathlib.Core.Path.{ap, sym}
 use borrow.Author.Needs.{needs}
-use Rattle.stripe.specs.declared.Damage.{Damage}
-use Rattle.stripe.specs.Locate.{found}
+use Rattle.locating.specs.declared.Damage.{Damage}
+use Rattle.locating.specs.Locate.{found}
 use Rattle.capi.proofs.bangsorut_locate.Statement.{statement}
 use Rattle.capi.proofs.bangsorut_locate.Tie as tie
 

@@ -6,13 +6,13 @@ use borrow.Author.Needs.{needs}
 use lib.ListN.{length}
 use Rattle.shape.specs.Good.{Good, size}
 use Rattle.shape.proofs.Asked.{not-done}
-use Rattle.stripe.proofs.RefusedLaws.{done-stripe}
+use Rattle.shape.proofs.Asked.{done-stripe}
 use Rattle.stripe.proofs.HandedLaws.{column-ends, column-part, handed-stop, handed-6, handed-done}
 use Rattle.stripe.proofs.columns.column.Statement.{statement}
 use Rattle.stripe.proofs.columns.column.Tie as tie
 
-refused-requires : tie.Need-refused-requires
-refused-requires c κs = search needs
+stripe-refusal-requires : tie.Need-stripe-refusal-requires
+stripe-refusal-requires c κs = search needs
 
 enum-told : tie.Need-enum-told
 enum-told c = search needs
@@ -27,7 +27,7 @@ part-result-end : tie.Need-part-result-end
 part-result-end c = search needs
 
 returns : tie.Need-returns
-returns c = handed-stop _ _ _ _ _ (c .before .before .refused .ensures) (not-done _ (c .before .match .keys2)) refl
+returns c = handed-stop _ _ _ _ _ (c .before .before .stripe-refusal .ensures) (not-done _ (c .before .match .keys2)) refl
 
 sub-result-2 : tie.Need-sub-result-2
 sub-result-2 c = search needs
@@ -40,7 +40,7 @@ part-result-end-2 c = search needs
 
 -- past the match the shape is good and the stripe is of its length
 whole : (c : tie.After-enum-told) → let s = c .before .before .before .before .args in Good (s .shape) × (length (s .stripe .now) ≡ size (s .shape))
-whole c = done-stripe _ _ _ (c .before .before .refused .ensures) (c .enum-told .given .1)
+whole c = done-stripe _ _ _ (c .before .before .stripe-refusal .ensures) (c .enum-told .given .1)
 
 returns-2 : tie.Need-returns-2
 returns-2 c = let (good, len) = whole (c .before .before .before) in handed-6 _ _ _ _ good len (c .before .if1 .taken) refl
@@ -79,7 +79,7 @@ pub column-spec : {M : Type 1} → statement M
 column-spec =
     tie.close
     (tie.spec
-    refused-requires
+    stripe-refusal-requires
     enum-told
     sub-result
     part-result-start

@@ -10,13 +10,13 @@ use Rattle.shape.specs.Answers.{number}
 use Rattle.shape.proofs.Asked.{not-done}
 use Rattle.shape.proofs.GoodLaws.{good-m}
 use Rattle.stripe.specs.Write.{write-table}
-use Rattle.stripe.proofs.RefusedLaws.{done-stripe}
+use Rattle.shape.proofs.Asked.{done-stripe}
 use Rattle.stripe.proofs.StruckOutcome.{struck-stop, struck-6, struck-8, struck-done}
 use Rattle.stripe.proofs.writing.small_write.Statement.{statement}
 use Rattle.stripe.proofs.writing.small_write.Tie as tie
 
-refused-requires : tie.Need-refused-requires
-refused-requires c κs = search needs
+stripe-refusal-requires : tie.Need-stripe-refusal-requires
+stripe-refusal-requires c κs = search needs
 
 enum-told : tie.Need-enum-told
 enum-told c = search needs
@@ -28,11 +28,11 @@ returns : tie.Need-returns
 unfolding write-table
 returns c =
     let a = c .before .before .before .before .before .args in
-    struck-stop (a .shape) (a .stripe .now) (a .shape .m - 1) (a .column) (a .row) (a .symbol .now) _ _ (c .before .refused .ensures) (not-done _ (c .match .keys2))
+    struck-stop (a .shape) (a .stripe .now) (a .shape .m - 1) (a .column) (a .row) (a .symbol .now) _ _ (c .before .stripe-refusal .ensures) (not-done _ (c .match .keys2))
 
 -- past the match the shape is good and the stripe is of its length
 whole : (c : tie.After-enum-told) → let a = c .before .before .before .before .before .before .args in Good (a .shape) × (length (a .stripe .now) ≡ size (a .shape))
-whole c = done-stripe _ _ _ (c .before .before .refused .ensures) (c .enum-told .given .1)
+whole c = done-stripe _ _ _ (c .before .before .stripe-refusal .ensures) (c .enum-told .given .1)
 
 same-length-2 : tie.Need-same-length-2
 same-length-2 c = search needs
@@ -85,7 +85,7 @@ pub small-write-spec : {M : Type 1} → statement M
 small-write-spec =
     tie.close
     (tie.spec
-    refused-requires
+    stripe-refusal-requires
     enum-told
     same-length
     returns

@@ -8,18 +8,15 @@ use borrow.Author.Tests.{eqb-true}
 use lib.Bits.{bitOr, or-add-and, and-le-l, and-le-r}
 use lib.Dec.{eqb}
 use lib.ListN.{getD}
+use Rattle.xor.specs.Asked.{Zero}
 use Rattle.xor.proofs.block.none.Statement.{statement}
 use Rattle.xor.proofs.block.none.Tie as tie
 use Rattle.xor.proofs.block.none.Reads as reads
 use Rattle.xor.proofs.block.none.Lts as lts
 
--- the bytes below k are 0
-abbrev Clear : List ℕ → ℕ → Type 0
-Clear xs k = (t : ℕ) → t < k → getD xs t 0 ≡ 0
-
 record Seen (xs : List ℕ) (k any : ℕ) : Type 0 where
-  pub clear : any ≡ 0 → Clear xs k
-  pub zero : Clear xs k → any ≡ 0
+  pub clear : any ≡ 0 → Zero xs k
+  pub zero : Zero xs k → any ≡ 0
 
 seen-none : (xs : List ℕ) → Seen xs 0 0
 seen-none xs = record { clear = λ e t l. absurd (omega arith); zero = λ h. refl }

@@ -1,0 +1,3 @@
+pub mod Explains
+pub mod LocateLaws
+pub mod LocatingLaws

@@ -1,0 +1,2 @@
+pub mod PricesLaws
+pub mod StockLaws
