@@ -1,5 +1,5 @@
 -- No product of a good shape is too long: what the code multiplies stays below the stripe's length, or is small by the ranges alone.
--- To cite: rows-columns, all-three, price-small, reads-some, column-inside, placed.
+-- To cite: rows-columns, all-three, price-small, reads-some, column-inside, place-ends, placed.
 use mathlib.Core.Path.{_≡_}
 use Prim.Native.Nat.{ℕ, _+_, _-_, _*_, _≤_, _<_}
 use native.Mathlib.Nat.{mul-le-mul, mul-le-mul-left}
@@ -35,7 +35,7 @@ module _ (sh : Shape) (good : Good sh) where
       omega (arith, mul-le-mul-left (sh .m * sh .w) one)
 
   -- a symbol ends inside the stripe
-  place-ends : (d c : ℕ) → d < sh .m → c < sh .n → place sh d c 0 + sh .w ≤ size sh
+  pub place-ends : (d c : ℕ) → d < sh .m → c < sh .n → place sh d c 0 + sh .w ≤ size sh
   unfolding place
   place-ends d c hd hc =
       let some : 1 ≤ sh .w = good .w-fits .0 in omega (arith, place-lt sh d c (sh .w - 1) hd hc (omega arith))

@@ -4,3 +4,4 @@ pub mod TotalLaws
 pub mod Span
 pub mod Upto
 pub mod OnesLaws
+pub mod Seen

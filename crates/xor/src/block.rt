@@ -6,19 +6,19 @@ ghost use lib.ListN.{length, getD};
 ghost use lib.Count.{ones};
 ghost use Rattle.xor.specs.Xor.{_⊕_};
 ghost use Rattle.xor.specs.Block.{longest, Block, Spanned};
-ghost use Rattle.xor.specs.Asked.{Tells, Zero, Ones};
+ghost use Rattle.xor.specs.Asked.{Tells, Zero, Same, Ones};
 
 // The longest block.
 const LONGEST: usize = 128;
 
-// Sets acc to the sum of the len bytes of s from a on and those from b on; whoever calls it stays within the slice.
-pub fn both(acc: &mut [u8; LONGEST], s: &[u8], a: usize, b: usize, len: usize)
-    requires { ⌜ (len ≤ longest) × (length (now acc) ≡ longest) × (a + len ≤ length (now s)) × (b + len ≤ length (now s)) ⌝ }
-    ensures { λ _. ⌜ Block (λ t. getD (now (s .entry)) (a + t) 0 ⊕ getD (now (s .entry)) (b + t) 0) len (now (acc .exit)) ⌝ }
+// Sets acc to the sum of the len bytes of s from a on and those of t from b on; whoever calls it stays within the slices.
+pub fn both(acc: &mut [u8; LONGEST], s: &[u8], a: usize, t: &[u8], b: usize, len: usize)
+    requires { ⌜ (len ≤ longest) × (length (now acc) ≡ longest) × (a + len ≤ length (now s)) × (b + len ≤ length (now t)) ⌝ }
+    ensures { λ _. ⌜ Block (λ k. getD (now (s .entry)) (a + k) 0 ⊕ getD (now (t .entry)) (b + k) 0) len (now (acc .exit)) ⌝ }
 {
     let mut k = 0;
     while k < len {
-        acc[k] = s[a + k] ^ s[b + k];
+        acc[k] = s[a + k] ^ t[b + k];
         k += 1;
     }
 }
@@ -68,6 +68,20 @@ pub fn none(acc: &[u8; LONGEST], len: usize) -> bool
     let mut k = 0;
     while k < len {
         any = any | acc[k];
+        k += 1;
+    }
+    any == 0
+}
+
+// Whether the first len bytes of acc are those of s from `at` on; whoever calls it stays within the block and the slice.
+pub fn same(acc: &[u8; LONGEST], s: &[u8], at: usize, len: usize) -> bool
+    requires { ⌜ (len ≤ longest) × (at + len ≤ length (now s)) ⌝ }
+    ensures { λ r. ⌜ Tells (Same (now (acc .entry)) (now (s .entry)) at len) r ⌝ }
+{
+    let mut any = 0u8;
+    let mut k = 0;
+    while k < len {
+        any = any | (acc[k] ^ s[at + k]);
         k += 1;
     }
     any == 0

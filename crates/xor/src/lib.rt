@@ -10,6 +10,7 @@ pub use block::join;
 pub use block::none;
 pub use block::pair;
 pub use block::put;
+pub use block::same;
 pub use slice::change;
 pub use slice::clear;
 pub use slice::copy;

@@ -1,4 +1,4 @@
--- The sum of two parts of a slice, byte by byte. The invariant: acc has that below k, and what it had from k on; the measure: the bytes to go.
+-- The sum of two parts of slices, byte by byte. The invariant: acc has that below k, and what it had from k on; the measure: the bytes to go.
 use mathlib.Core.Path.{refl}
 use Prim.Native.Nat.{_+_, _-_, _≤_}
 use native.Mathlib.Omega.{arith}
@@ -11,10 +11,10 @@ use Rattle.xor.proofs.block.both.Reads as reads
 use Rattle.xor.proofs.block.both.Lts as lts
 
 abbrev Inv-loop : tie.InvT-loop
-Inv-loop acc₀ s a b len k₀ acc k = (k ≤ len) × Upto (λ t. getD s (a + t) 0 ⊕ getD s (b + t) 0) acc₀ acc k
+Inv-loop acc₀ s a t b len k₀ acc k = (k ≤ len) × Upto (λ i. getD s (a + i) 0 ⊕ getD t (b + i) 0) acc₀ acc k
 
 abbrev μ-loop : tie.MeasureT-loop
-μ-loop acc₀ s a b len k₀ acc k = len - k
+μ-loop acc₀ s a t b len k₀ acc k = len - k
 
 loop-holds : tie.Need-loop-holds Inv-loop μ-loop
 loop-holds c = (omega arith, upto-none _ _)

@@ -1,0 +1,19 @@
+-- THE PLACES OF A CHAIN'S SYMBOLS, in a list for the longest chain. Definitions only.
+use mathlib.Core.Path.{_≡_}
+use mathlib.Core.List.{List}
+use Prim.Native.Nat.{ℕ, _-_, _*_, _≤_, _<_}
+use lib.ListN.{length, getD}
+use Rattle.shape.specs.declared.Shape.{Shape}
+use Rattle.shape.specs.Place.{place}
+use Rattle.shape.specs.Step.{left, right}
+
+-- of the heights below e of chain p the list has where the symbols start: of height d the left one at 2d - 2, the right one at 2d - 1
+pub record Listed (sh : Shape) (p e : ℕ) (list : List ℕ) : Type 0 where
+  pub long : length list ≡ 32
+  pub lefts : (d : ℕ) → 1 ≤ d → d < e → getD list (2 * d - 2) 0 ≡ place sh d (left (sh .n) p d) 0
+  pub rights : (d : ℕ) → 1 ≤ d → d < e → getD list (2 * d - 1) 0 ≡ place sh d (right (sh .n) p d) 0
+
+-- of all heights of chain p, and of its parity symbol at 2m - 2
+pub record Laid (sh : Shape) (p : ℕ) (list : List ℕ) : Type 0 where
+  pub information : Listed sh p (sh .m) list
+  pub parity : getD list (2 * sh .m - 2) 0 ≡ place sh 0 p 0

@@ -1,0 +1,176 @@
+-- `sources`: the parity symbol takes the lost one's place in the list, unless it is the lost one itself; the last takes that of the asked one.
+use mathlib.Core.Path.{_≡_, sym}
+use mathlib.Core.Logic.{⊎-elim}
+use Prim.Native.Nat.{_+_, _-_, _*_}
+use native.Mathlib.Omega.{arith}
+use borrow.Author.Needs.{needs}
+use Rattle.chain.specs.Places.{Laid}
+use Rattle.solving.proofs.SourcesLaws.{Taken, taken-parity, taken-at, sourced-top, sourced-next, next-small}
+use Rattle.solving.proofs.sources.sources.Statement.{statement}
+use Rattle.solving.proofs.sources.sources.Tie as tie
+
+mul-last : tie.Need-mul-last
+mul-last c = search needs
+
+sub-last : tie.Need-sub-last
+sub-last c = search needs
+
+walk-requires : tie.Need-walk-requires
+walk-requires c κs = search needs
+
+places-requires : tie.Need-places-requires
+places-requires c κs = search needs
+
+add-list : tie.Need-add-list
+add-list c = search needs
+
+mul-list : tie.Need-mul-list
+mul-list c = search needs
+
+element-copy-out-list : tie.Need-element-copy-out-list
+element-copy-out-list c = search needs
+
+mul-list-2 : tie.Need-mul-list-2
+mul-list-2 c = search needs
+
+sub-list : tie.Need-sub-list
+sub-list c = search needs
+
+sub-list-2 : tie.Need-sub-list-2
+sub-list-2 c = search needs
+
+mul-list-3 : tie.Need-mul-list-3
+mul-list-3 c = search needs
+
+element-write-list : tie.Need-element-write-list
+element-write-list c = search needs
+
+add-list-2 : tie.Need-add-list-2
+add-list-2 c = search needs
+
+mul-list-4 : tie.Need-mul-list-4
+mul-list-4 c = search needs
+
+element-copy-out-list-2 : tie.Need-element-copy-out-list-2
+element-copy-out-list-2 c = search needs
+
+mul-list-5 : tie.Need-mul-list-5
+mul-list-5 c = search needs
+
+sub-list-3 : tie.Need-sub-list-3
+sub-list-3 c = search needs
+
+sub-list-4 : tie.Need-sub-list-4
+sub-list-4 c = search needs
+
+mul-list-6 : tie.Need-mul-list-6
+mul-list-6 c = search needs
+
+element-write-list-2 : tie.Need-element-write-list-2
+element-write-list-2 c = search needs
+
+mul-t25 : tie.Need-mul-t25
+mul-t25 c = search needs
+
+element-copy-out-t29 : tie.Need-element-copy-out-t29
+element-copy-out-t29 c = search needs
+
+laid : (c : tie.After-places) → Laid (c .before .before .before .before .args .sh) (c .before .before .before .before .args .p) (c .places .last .0)
+laid c = rw (c .before .walk .ensures .1) at (c .places .ensures)
+
+-- the lost symbol is taken out
+taken : (c : tie.Joined1) → let s = c .before .before .before .before .before in
+    Taken (s .args .sh) (s .args .p) (s .args .side) (s .args .d) (c .before .places .last .0) (c .if1 .list)
+taken c =
+    let s = c .before .before .before .before .before in
+    let a = s .args in
+    let l = laid (c .before) in
+    ⊎-elim
+    (λ z. rw (z .2) (taken-at (a .sh) (s .pre .0) (a .p) (s .pre .1) (a .side) (s .pre .2) (c .before .places .last .0) l (a .d) (omega (arith, z .0 .taken)) (s .pre .3) _ (omega (arith, s .pre .0 .m-fits .0))))
+    (λ z. let e : a .d ≡ 0 = omega (arith, z .0 .left) in rw (z .1, e) (taken-parity (a .sh) (s .pre .0) (a .p) (s .pre .1) (a .side) (s .pre .2) (c .before .places .last .0) l))
+    (c .if1 .came)
+
+cast-t33 : tie.Need-cast-t33
+cast-t33 c =
+    let j = c .before .before .before .before in
+    let s = j .before .before .before .before .before in
+    let a = s .args in
+    omega (arith, next-small (a .sh) (s .pre .0) (a .p) (s .pre .1) (a .side) (s .pre .2) _ (laid (j .before)) (a .d) (a .h) (a .b) (s .pre .4) (j .if1 .list) (taken j) (omega arith))
+
+returns : tie.Need-returns
+returns c =
+    let j = c .before .before .before .before in
+    let s = j .before .before .before .before .before in
+    let a = s .args in
+    sourced-next (a .sh) (s .pre .0) (a .p) (s .pre .1) (a .side) (s .pre .2) _ (laid (j .before)) (a .d) (a .h) (a .b) (s .pre .4) (j .if1 .list) (taken j) (omega arith)
+
+mul-t9 : tie.Need-mul-t9
+mul-t9 c = search needs
+
+element-copy-out-t40 : tie.Need-element-copy-out-t40
+element-copy-out-t40 c = search needs
+
+cast-t41 : tie.Need-cast-t41
+cast-t41 c =
+    let j = c .before .before .before in
+    let s = j .before .before .before .before .before in
+    omega (arith, taken j .ends (2 * s .args .sh .m - 4) (omega (arith, s .pre .0 .m-fits .0)), s .pre .0 .all-fits)
+
+add-t42 : tie.Need-add-t42
+add-t42 c = search needs
+
+mul-t43 : tie.Need-mul-t43
+mul-t43 c = search needs
+
+element-copy-out-t46 : tie.Need-element-copy-out-t46
+element-copy-out-t46 c = search needs
+
+cast-t47 : tie.Need-cast-t47
+cast-t47 c =
+    let j = c .before .before .before .before in
+    let s = j .before .before .before .before .before in
+    omega (arith, taken j .ends (2 * s .args .sh .m - 4 + 1) (omega (arith, s .pre .0 .m-fits .0)), s .pre .0 .all-fits)
+
+returns-2 : tie.Need-returns-2
+returns-2 c =
+    let j = c .before .before .before .before in
+    let s = j .before .before .before .before .before in
+    let a = s .args in
+    sourced-top (a .sh) (s .pre .0) (a .p) (s .pre .1) (a .side) (s .pre .2) _ (laid (j .before)) (a .d) (a .h) (a .b) (s .pre .4) (j .if1 .list) (taken j) (omega arith)
+
+pub sources-spec : {M : Type 1} → statement M
+sources-spec =
+    tie.close
+    (tie.spec
+    mul-last
+    sub-last
+    walk-requires
+    places-requires
+    add-list
+    mul-list
+    element-copy-out-list
+    mul-list-2
+    sub-list
+    sub-list-2
+    mul-list-3
+    element-write-list
+    add-list-2
+    mul-list-4
+    element-copy-out-list-2
+    mul-list-5
+    sub-list-3
+    sub-list-4
+    mul-list-6
+    element-write-list-2
+    mul-t25
+    element-copy-out-t29
+    cast-t33
+    returns
+    mul-t9
+    element-copy-out-t40
+    cast-t41
+    add-t42
+    mul-t43
+    element-copy-out-t46
+    cast-t47
+    returns-2)
