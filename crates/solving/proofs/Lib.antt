@@ -1,3 +1,5 @@
 pub mod SumsLaws
 pub mod FlatLaws
 pub mod SourcesLaws
+pub mod OwnLaws
+pub mod StoresLaws

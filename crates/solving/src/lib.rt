@@ -1,6 +1,12 @@
 // A symbol solved: the sum of the other symbols of its chain, some of which may have been solved before it.
+use shape::Shape;
+
+mod outer;
 mod sources;
 mod sums;
+
+pub use outer::solve_first;
+pub use outer::solve_second;
 
 // What a symbol is the sum of: of the symbol of the stripe at a, of the one at b, which is in the buffer if it was asked for, and of those at the
 // first count places of a list.
@@ -9,4 +15,15 @@ pub struct Sum {
     pub a: usize,
     pub asked: bool,
     pub b: usize,
+}
+
+// The lost columns of a stripe: the walk leads from first up to second. n stands for no column, and then the walk is too long to ask for anything.
+// In the buffer first's column begins at `one` and second's at `two`.
+pub struct Gone {
+    pub shape: Shape,
+    pub first: usize,
+    pub second: usize,
+    pub walk: usize,
+    pub one: usize,
+    pub two: usize,
 }

@@ -1,0 +1,114 @@
+-- Laws of the outer-chain order under way: what is asked for is ready too, the stores end with the symbol's own, and that is the solved one.
+use mathlib.Core.Path.{_≡_, refl, sym, ap, ap₂, _∙_, subst}
+use mathlib.Core.Bool.{cond}
+use mathlib.Core.List.{List}
+use Prim.Native.Nat.{ℕ, zero, suc, _+_, _-_, _*_, _%_, _≤_, _<_}
+use native.Mathlib.Omega.{arith}
+use lib.Dec.{ltb}
+use borrow.Author.Tests.{lt-ltb, le-ltb}
+use lib.ListN.{length, getD}
+use Rattle.xor.specs.Xor.{_⊕_}
+use Rattle.xor.specs.Block.{Spanned}
+use Rattle.xor.proofs.Span.{span-same}
+use Rattle.shape.specs.Place.{byte}
+use Rattle.rule.proofs.Solve.{cond-cong}
+use Rattle.solving.specs.declared.Gone.{Gone}
+use Rattle.solving.specs.Sources.{besides}
+use Rattle.solving.specs.Outer.{column-of, spot, chain-of, Solved, Stores, alone, after, Apart, turned, Ready}
+
+-- ---- ready
+
+module _ (g : Gone) (side d : ℕ) (s out : List ℕ) (r : Ready g side d s out) where
+  back : 1 - (1 - side) ≡ side
+  back = omega (arith, r .side-is)
+
+  -- the side itself
+  pub ready-room : (spot g side d + g .shape .w ≤ length out) × (spot g side d + g .shape .w ≤ 262144)
+  ready-room =
+      let e : turned 0 side ≡ side = omega (arith, r .side-is) in
+      let f : d + 0 * g .walk ≡ d = omega arith in
+      subst (λ (z : ℕ). (spot g z d + g .shape .w ≤ length out) × (spot g z d + g .shape .w ≤ 262144)) e
+      (subst (λ (z : ℕ). (spot g (turned 0 side) z + g .shape .w ≤ length out) × (spot g (turned 0 side) z + g .shape .w ≤ 262144)) f (r .room 0 (omega (arith, r .high))))
+
+  module _ (h : d + g .walk < g .shape .m) where
+    step : (k : ℕ) → d + (k + 1) * g .walk ≡ d + g .walk + k * g .walk
+    step k = omega arith
+
+    turn : (k : ℕ) → turned (k + 1) side ≡ turned k (1 - side)
+    turn k = omega (arith, r .side-is)
+
+    -- the other side, which is asked for
+    pub ready-next : Ready g (1 - side) (d + g .walk) s out
+    ready-next = record {
+      good = r .good;
+      whole = r .whole;
+      side-is = omega arith;
+      high = h;
+      column = r .other (omega arith);
+      other = λ z. subst (λ (i : ℕ). column-of g i < g .shape .n) (sym back) (r .column);
+      near = r .near;
+      short = r .short;
+      room = λ k l.
+          subst (λ (z : ℕ). (spot g z (d + g .walk + k * g .walk) + g .shape .w ≤ length out) × (spot g z (d + g .walk + k * g .walk) + g .shape .w ≤ 262144)) (turn k)
+          (subst (λ (z : ℕ). (spot g (turned (k + 1) side) z + g .shape .w ≤ length out) × (spot g (turned (k + 1) side) z + g .shape .w ≤ 262144)) (step k)
+          (r .room (k + 1) (omega (arith, step k))));
+      apart = λ k l.
+          subst (λ (z : ℕ). Apart (spot g z (d + g .walk + k * g .walk)) (spot g (turned (k + 1) (1 - side)) (d + g .walk + (k + 1) * g .walk)) (g .shape .w)) (turn k)
+          (subst (λ (z : ℕ). Apart (spot g (turned (k + 1) side) (d + g .walk + k * g .walk)) (spot g z (d + g .walk + (k + 1) * g .walk)) (g .shape .w)) (turn (k + 1))
+          (subst (λ (z : ℕ). Apart (spot g (turned (k + 1) side) z) (spot g (turned (k + 1 + 1) side) (d + g .walk + (k + 1) * g .walk)) (g .shape .w)) (step k)
+          (subst (λ (z : ℕ). Apart (spot g (turned (k + 1) side) (d + (k + 1) * g .walk)) (spot g (turned (k + 1 + 1) side) z) (g .shape .w)) (step (k + 1))
+          (r .apart (k + 1) (omega (arith, step (k + 1)))))));
+    }
+
+    pub ready-apart : Apart (spot g side d) (spot g (1 - side) (d + g .walk)) (g .shape .w)
+    ready-apart =
+        let e : turned 0 side ≡ side = omega (arith, r .side-is) in
+        let e₁ : turned (0 + 1) side ≡ 1 - side = omega (arith, r .side-is) in
+        let f : d + 0 * g .walk ≡ d = omega arith in
+        let f₁ : d + (0 + 1) * g .walk ≡ d + g .walk = omega arith in
+        subst (λ (z : ℕ). Apart (spot g z d) (spot g (1 - side) (d + g .walk)) (g .shape .w)) e
+        (subst (λ (z : ℕ). Apart (spot g (turned 0 side) d) (spot g z (d + g .walk)) (g .shape .w)) e₁
+        (subst (λ (z : ℕ). Apart (spot g (turned 0 side) z) (spot g (turned (0 + 1) side) (d + g .walk)) (g .shape .w)) f
+        (subst (λ (z : ℕ). Apart (spot g (turned 0 side) (d + 0 * g .walk)) (spot g (turned (0 + 1) side) z) (g .shape .w)) f₁
+        (r .apart 0 (omega arith)))))
+
+-- a buffer as long
+pub ready-like : (g : Gone) (side d : ℕ) (s out out′ : List ℕ) → length out′ ≡ length out → Ready g side d s out → Ready g side d s out′
+ready-like g side d s out out′ e r = record {
+  good = r .good;
+  whole = r .whole;
+  side-is = r .side-is;
+  high = r .high;
+  column = r .column;
+  other = r .other;
+  near = r .near;
+  short = r .short;
+  room = λ k l. (omega (arith, r .room k l .0), r .room k l .1);
+  apart = r .apart;
+}
+
+-- ---- the stores
+
+-- the last of them is the symbol's own
+pub stores-here : (g : Gone) (v : ℕ → ℕ → ℕ → ℕ) {side d : ℕ} {out out′ : List ℕ} → Stores g v side d out out′
+    → (t : ℕ) → t < g .shape .w → getD out′ (spot g side d + t) 0 ≡ v side d t
+stores-here g v (alone side d out out′ far u) t l = u .at t l
+stores-here g v (after side d out mid out′ near w u) t l = u .at t l
+
+module _ (g : Gone) (s : List ℕ) (v : ℕ → ℕ → ℕ → ℕ) (sol : Solved g s v) (side d : ℕ) (hs : side ≤ 1) (hc : column-of g side < g .shape .n) (hd : d < g .shape .m)
+    (p b at : ℕ) (ep : p ≡ chain-of g side d) (ea : at ≡ spot g side d) (out mid out′ : List ℕ)
+    (u : Spanned (λ t. besides (g .shape .m) (g .shape .n) (byte (g .shape) s t) side p d (d + g .walk) ⊕ cond (ltb (d + g .walk) (g .shape .m)) (getD mid (b + t) 0) 0) mid out′ at (g .shape .w)) where
+  -- `own` stores the solved symbol, if what it asks for is solved
+  solved-own : (d + g .walk < g .shape .m → (t : ℕ) → t < g .shape .w → getD mid (b + t) 0 ≡ v (1 - side) (d + g .walk) t)
+      → Spanned (v side d) mid out′ (spot g side d) (g .shape .w)
+  solved-own asked = span-same (v side d) u ea (λ t l.
+      ap₂ _⊕_ (ap (λ (q : ℕ). besides (g .shape .m) (g .shape .n) (byte (g .shape) s t) side q d (d + g .walk)) ep)
+      (cond-cong (d + g .walk) (g .shape .m) (getD mid (b + t) 0) (v (1 - side) (d + g .walk) t) (λ h. asked h t l))
+      ∙ sym (sol .each side d t hs hc hd l))
+
+  pub stores-alone : g .shape .m ≤ d + g .walk → Stores g v side d mid out′
+  stores-alone far = alone side d mid out′ far (solved-own (λ h. absurd (omega arith)))
+
+  pub stores-after : d + g .walk < g .shape .m → b ≡ spot g (1 - side) (d + g .walk) → Stores g v (1 - side) (d + g .walk) out mid → Stores g v side d out out′
+  stores-after near eb w =
+      after side d out mid out′ near w (solved-own (λ h t l. ap (λ (i : ℕ). getD mid (i + t) 0) eb ∙ stores-here g v w t l))

@@ -1,0 +1,33 @@
+-- `own`: the sources, then their sum.
+use borrow.Author.Needs.{needs}
+use Rattle.solving.proofs.OwnLaws.{own-clear, own-stored}
+use Rattle.solving.proofs.outer.own.Statement.{statement}
+use Rattle.solving.proofs.outer.own.Tie as tie
+
+sources-requires : tie.Need-sources-requires
+sources-requires c κs = search needs
+
+sum-symbol-requires : tie.Need-sum-symbol-requires
+sum-symbol-requires c κs =
+    let s = c .before .before .before .before .before .before in
+    let a = s .args in
+    let from = c .before .before .sources in (
+      from .ensures .fits (a .s .now) (a .out .now) (s .pre .1) (λ z. (s .pre .8 z .0, s .pre .8 z .1)),
+      s .pre .7,
+      own-clear (a .sh) (a .p) (a .side) (a .d) (a .h) (a .b) (from .last .0) (from .result) (from .ensures) (a .at) (λ z. s .pre .8 z .2),
+    )
+
+same-length : tie.Need-same-length
+same-length c = search needs
+
+returns : tie.Need-returns
+returns c =
+    let s = c .before .before .before .before .before .before .before .before .before in
+    let a = s .args in
+    let from = c .before .before .before .before .before .sources in (
+      from .ensures .fits (a .s .now) (a .out .now) (s .pre .1) (λ z. (s .pre .8 z .0, s .pre .8 z .1)) .long,
+      own-stored (a .sh) (a .p) (a .side) (a .d) (a .h) (a .b) (from .last .0) (from .result) (from .ensures) (a .s .now) (a .out .now) _ (a .at) (c .before .before .sum-symbol .ensures),
+    )
+
+pub own-spec : {M : Type 1} → statement M
+own-spec = tie.close (tie.spec sources-requires sum-symbol-requires same-length returns)

@@ -1,0 +1,95 @@
+// The outer-chain order: two functions, one per lost column, that call each other with rising height.
+ghost use mathlib.Core.Path.{_≡_};
+ghost use mathlib.Core.Bool.{cond};
+ghost use Prim.Native.Nat.{ℕ, _+_, _≤_, _<_};
+ghost use lib.Dec.{ltb};
+ghost use lib.ListN.{length, getD};
+ghost use Rattle.xor.specs.Xor.{_⊕_};
+ghost use Rattle.xor.specs.Block.{Spanned};
+ghost use Rattle.shape.specs.Good.{Good, size};
+ghost use Rattle.shape.specs.Place.{place, byte};
+ghost use Rattle.shape.specs.Placed.{Stepped};
+ghost use Rattle.shape.specs.Step.{left, right};
+ghost use Rattle.solving.specs.Sources.{besides};
+ghost use Rattle.solving.specs.Outer.{Solved, Stores, Apart, Ready};
+use crate::Gone;
+use crate::sources::sources;
+use crate::sums::sum_symbol;
+use shape::Shape;
+
+// The column d to the left of c, modulo n, without a division.
+fn below(n: usize, c: usize, d: usize) -> usize
+    requires { ⌜ (c < n) × (d < n) × (n ≤ 64) ⌝ }
+    ensures { λ r. ⌜ Stepped n (left n c d) r ⌝ }
+{
+    if c < d {
+        return c + n - d;
+    }
+    c - d
+}
+
+// The column d to the right of c, modulo n, without a division.
+fn above(n: usize, c: usize, d: usize) -> usize
+    requires { ⌜ (c < n) × (d < n) × (n ≤ 64) ⌝ }
+    ensures { λ r. ⌜ Stepped n (right n c d) r ⌝ }
+{
+    let e = c + d;
+    if e < n {
+        return e;
+    }
+    e - n
+}
+
+// Stores at `at` what chain p gives without its symbols of heights d and h on a side, with the symbol of the buffer at b in the place of the one of height h.
+fn own(
+    s: &[u8],
+    out: &mut [u8],
+    list: &mut [u16; 32],
+    sh: Shape,
+    p: usize,
+    side: usize,
+    d: usize,
+    h: usize,
+    b: usize,
+    at: usize,
+)
+    requires { ⌜ (Good sh) × (length (now s) ≡ size sh) × (p < sh .n) × (side ≤ 1) × (d < sh .m) × (d < h) × (length (now list) ≡ 32) × (at + sh .w ≤ length (now out)) × (h < sh .m → (b + sh .w ≤ length (now out)) × (b + sh .w ≤ 262144) × Apart at b (sh .w)) ⌝ }
+    ensures { λ _. ⌜ (length (now (list .exit)) ≡ 32) × (Spanned (λ t. besides (sh .m) (sh .n) (byte sh (now (s .entry)) t) side p d h ⊕ cond (ltb h (sh .m)) (getD (now (out .entry)) (b + t) 0) 0) (now (out .entry)) (now (out .exit)) at (sh .w)) ⌝ }
+{
+    let from = sources(list, sh, p, side, d, h, b);
+    sum_symbol(sh.w, s, out, list, from, at);
+}
+
+// Stores first's symbol of height d, and before it those above it that it asks for.
+pub fn solve_first(s: &[u8], out: &mut [u8], list: &mut [u16; 32], x: Gone, d: usize)
+    requires { ⌜ (Ready x 0 d (now s) (now out)) × (length (now list) ≡ 32) ⌝ }
+    ensures { λ _. ⌜ (length (now (list .exit)) ≡ 32) × (length (now (out .exit)) ≡ length (now (out .entry))) × ((v : ℕ → ℕ → ℕ → ℕ) → Solved x (now (s .entry)) v → Stores x v 0 d (now (out .entry)) (now (out .exit))) ⌝ }
+{
+    let sh = x.shape;
+    let h = d + x.walk;
+    let p = below(sh.n, x.first, d);
+    let at = x.one + sh.place(d, 0);
+    if h < sh.m {
+        solve_second(s, out, list, x, h);
+        own(s, out, list, sh, p, 0, d, h, x.two + sh.place(h, 0), at);
+    } else {
+        own(s, out, list, sh, p, 0, d, h, 0, at);
+    }
+}
+
+// Stores second's symbol of height d, and before it those above it that it asks for.
+pub fn solve_second(s: &[u8], out: &mut [u8], list: &mut [u16; 32], x: Gone, d: usize)
+    requires { ⌜ (Ready x 1 d (now s) (now out)) × (length (now list) ≡ 32) ⌝ }
+    ensures { λ _. ⌜ (length (now (list .exit)) ≡ 32) × (length (now (out .exit)) ≡ length (now (out .entry))) × ((v : ℕ → ℕ → ℕ → ℕ) → Solved x (now (s .entry)) v → Stores x v 1 d (now (out .entry)) (now (out .exit))) ⌝ }
+{
+    let sh = x.shape;
+    let h = d + x.walk;
+    let p = above(sh.n, x.second, d);
+    let at = x.two + sh.place(d, 0);
+    if h < sh.m {
+        solve_first(s, out, list, x, h);
+        own(s, out, list, sh, p, 1, d, h, x.one + sh.place(h, 0), at);
+    } else {
+        own(s, out, list, sh, p, 1, d, h, 0, at);
+    }
+}
