@@ -1,3 +1,4 @@
 pub mod RebuildLaws
 pub mod FillLaws
 pub mod ChooseLaws
+pub mod StagingLaws

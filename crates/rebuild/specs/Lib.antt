@@ -1,3 +1,4 @@
 pub mod Rebuild
 pub mod Fill
 pub mod Choose
+pub mod Staging
