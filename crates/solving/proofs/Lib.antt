@@ -3,3 +3,4 @@ pub mod FlatLaws
 pub mod SourcesLaws
 pub mod OwnLaws
 pub mod StoresLaws
+pub mod SolvedLaws
