@@ -10,6 +10,7 @@ use lib.Count.{ones}
 use Rattle.xor.specs.Asked.{Tells}
 use Rattle.xor.proofs.TotalLaws.{total-zero, total-same}
 use Rattle.xor.proofs.OnesLaws.{ones-zero, ones-none, total-clear}
+use Rattle.xor.proofs.AskedLaws.{tells-false}
 use Rattle.shape.specs.declared.Shape.{Shape}
 use Rattle.shape.specs.Good.{Good}
 use Rattle.shape.specs.Step.{left, right}
@@ -22,18 +23,6 @@ use Rattle.checking.specs.Bits.{Chain, Bits}
 use Rattle.locating.specs.Locate.{Explains, Mends, Names}
 use Rattle.locating.specs.Locating.{Sized, Level, Compares, Holds, Alike, Apart, Unbroken, Within, Searched}
 use Rattle.locating.proofs.Explains.{explains-is-mends}
-
--- ---- yes and no
-
-pub tells-true : {P : Type 0} → P → Tells P true
-tells-true h = record { yes = λ e. h; no = λ x. refl }
-
-pub tells-false : {P : Type 0} → ¬ P → Tells P false
-tells-false h = record { yes = λ e. absurd (let z : _≡_ {A = ℕ} 0 1 = cc in omega arith); no = λ x. absurd (h x) }
-
--- the answer is no
-pub told-no : {P : Type 0} {r : Bool} → Tells P r → r ≡ false → ¬ P
-told-no {P} {r} h e p = let y : r ≡ true = h .no p in let z : _≡_ {A = ℕ} 0 1 = cc in absurd (omega arith)
 
 -- the two chains that were asked of, under other names
 pub tells-both : (sh : Shape) (s : List ℕ) {p p′ q q′ : ℕ} {r : Bool} → p′ ≡ p → q′ ≡ q → Tells (Alike sh s p′ q′) r → Tells (Alike sh s p q) r

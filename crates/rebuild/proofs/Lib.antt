@@ -2,3 +2,4 @@ pub mod RebuildLaws
 pub mod FillLaws
 pub mod ChooseLaws
 pub mod StagingLaws
+pub mod ReadingLaws

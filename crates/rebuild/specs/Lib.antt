@@ -1,4 +1,5 @@
 pub mod Rebuild
 pub mod Fill
 pub mod Choose
+pub mod Reading
 pub mod Staging

@@ -71,7 +71,7 @@ module _ (n a b : ℕ) (ne : a ≢ b) where
       at (no p) (no q) (no r) =
           rw (le-ltb (walk n a b) (walk n b a) (omega arith), le-ltb (walk n b a) (walk n a b) (omega arith), le-ltb a b (omega arith), lt-ltb b a (omega arith))
 
-  first-in : (first n a b ≡ a) ⊎ (first n a b ≡ b)
+  pub first-in : (first n a b ≡ a) ⊎ (first n a b ≡ b)
   unfolding first
   first-in = at (ltb (walk n a b) (walk n b a)) (ltb (walk n b a) (walk n a b)) (ltb a b)
     where

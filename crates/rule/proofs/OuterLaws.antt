@@ -23,12 +23,12 @@ use Rattle.rule.specs.declared.Losses.{Losses}
 use Rattle.rule.specs.declared.Losses.the-variants.{One, Two}
 use Rattle.rule.specs.Rule.{Grid, chain, differs}
 use Rattle.rule.specs.Losses.{Beyond, Twice}
-use Rattle.rule.specs.Outer.{without, Outer}
+use Rattle.rule.specs.Outer.{reading, without, Outer}
 use Rattle.rule.proofs.ChainLaws.{chain-cong}
 use Rattle.rule.proofs.OrderLaws.{first-either, second-either}
 use Rattle.rule.proofs.Solve.{Order, Solved, side-column, side-chain, side-chain-lt, solve, solved-one}
 use Rattle.rule.proofs.Solution.{solution, solution-solved}
-use Rattle.rule.proofs.Reading.{reading, Sided, reading-order, reading-lost, reading-used}
+use Rattle.rule.proofs.Reading.{Sided, reading-order, reading-lost, reading-used}
 
 -- the one reading of the losses of a stripe
 abbrev pub first-of : Shape → Losses → ℕ

@@ -1,5 +1,5 @@
 -- Laws of losses: what is decided of them, and their one reading as first, second and walk.
--- To cite: lost?, beyond?, twice?; reading with reading-order, reading-lost, reading-used.
+-- To cite: lost?, beyond?, twice?; reading-order, reading-lost, reading-used.
 use mathlib.Core.Path.{_≡_, refl, sym, _∙_}
 use mathlib.Core.Logic.{_↔_, _≢_, Ne·symm, _⊎_, inl, inr, ⊎-elim, ⊎-swap}
 use mathlib.Core.Bool.{Bool, true, false}
@@ -11,7 +11,7 @@ use Rattle.shape.proofs.OutcomeLaws.{either?}
 use Rattle.rule.specs.declared.Losses.{Losses}
 use Rattle.rule.specs.declared.Losses.the-variants.{None, One, Two}
 use Rattle.rule.specs.Losses.{Lost, Beyond, Twice}
-use Rattle.rule.specs.Outer.{walk, first, second, Used}
+use Rattle.rule.specs.Outer.{walk, first, second, reading, Used}
 use Rattle.rule.proofs.OrderLaws.{Ordered, order, walk-reach, walk-pos}
 use Rattle.rule.proofs.Solve.{Order, Pair, side-column, side-chain}
 
@@ -34,18 +34,12 @@ twice? (Two a b) = ℕ-discrete a b
 
 -- ---- one reading
 
--- first, second and the walk from first up to second; n is no column, and m is too far
-abbrev pub reading : ℕ → ℕ → Losses → ℕ × ℕ × ℕ
-reading m n None = (n, n, m)
-reading m n (One c) = (c, n, m)
-reading m n (Two a b) = (first n a b, second n a b, walk n (first n a b) (second n a b))
-
 -- chain p is a side's, for some height
 abbrev pub Sided : ℕ → ℕ → ℕ → ℕ → ℕ → Type 0
 Sided m n f g p = (side : Bool) × (d : ℕ) × (side-column f g side < n) × (d < m) × (p ≡ side-chain n f g side d)
 
 -- of the two that are not beyond
-both-lt : (n a b : ℕ) → ¬ ((n ≤ a) ⊎ (n ≤ b)) → (a < n) × (b < n)
+pub both-lt : (n a b : ℕ) → ¬ ((n ≤ a) ⊎ (n ≤ b)) → (a < n) × (b < n)
 both-lt n a b fit = (at (decLt a n) inl, at (decLt b n) inr)
   where
     at : {x : ℕ} → Dec (x < n) → (n ≤ x → (n ≤ a) ⊎ (n ≤ b)) → x < n

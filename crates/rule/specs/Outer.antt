@@ -24,6 +24,12 @@ first n a b = cond (ltb (walk n a b) (walk n b a)) a (cond (ltb (walk n b a) (wa
 unfoldable pub second : ℕ → ℕ → ℕ → ℕ
 second n a b = cond (eqb (first n a b) a) b a
 
+-- first, second and the walk from first up to second, of any losses: n is no column, and m is too far to walk
+abbrev pub reading : ℕ → ℕ → Losses → ℕ × ℕ × ℕ
+reading m n None = (n, n, m)
+reading m n (One c) = (c, n, m)
+reading m n (Two a b) = (first n a b, second n a b, walk n (first n a b) (second n a b))
+
 -- the survivors: the grid X with 0 in the columns a and b
 unfoldable pub without : ℕ → ℕ → Grid → Grid
 without a b X d c = cond (eqb c a) 0 (cond (eqb c b) 0 (X d c))

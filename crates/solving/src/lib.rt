@@ -5,6 +5,7 @@ mod outer;
 mod sources;
 mod sums;
 
+pub use outer::below;
 pub use outer::solve_first;
 pub use outer::solve_second;
 

@@ -5,3 +5,4 @@ pub mod Span
 pub mod Upto
 pub mod OnesLaws
 pub mod Seen
+pub mod AskedLaws

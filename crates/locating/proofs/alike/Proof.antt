@@ -4,7 +4,8 @@ use Prim.Native.Nat.{ℕ, _-_, _≤_}
 use native.Mathlib.Omega.{arith}
 use Rattle.xor.specs.Asked.{Tells}
 use Rattle.locating.specs.Locating.{Level}
-use Rattle.locating.proofs.LocatingLaws.{tells-true, level-then, tells-both}
+use Rattle.xor.proofs.AskedLaws.{tells-true}
+use Rattle.locating.proofs.LocatingLaws.{level-then, tells-both}
 use Rattle.locating.proofs.alike.Statement.{statement}
 use Rattle.locating.proofs.alike.Tie as tie
 

@@ -5,7 +5,8 @@ use borrow.Author.Tests.{not-false, not-true}
 use Rattle.xor.specs.Xor.{_⊕_}
 use Rattle.xor.specs.Asked.{Tells}
 use Rattle.xor.proofs.XorLaws.{⊕-eq, ⊕-same}
-use Rattle.locating.proofs.LocatingLaws.{told-no, Pieces, compares-yes, compares-no}
+use Rattle.xor.proofs.AskedLaws.{told-no}
+use Rattle.locating.proofs.LocatingLaws.{Pieces, compares-yes, compares-no}
 use Rattle.locating.proofs.level.Statement.{statement}
 use Rattle.locating.proofs.level.Tie as tie
 

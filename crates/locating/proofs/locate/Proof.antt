@@ -8,7 +8,8 @@ use Rattle.shape.proofs.Asked.{not-done}
 use Rattle.locating.specs.Locate.{found}
 use Rattle.locating.specs.Locating.{Sized}
 use Rattle.shape.proofs.Asked.{done-stripe}
-use Rattle.locating.proofs.LocatingLaws.{told-no, names-sound, names-searched}
+use Rattle.xor.proofs.AskedLaws.{told-no}
+use Rattle.locating.proofs.LocatingLaws.{names-sound, names-searched}
 use Rattle.locating.proofs.locate.Statement.{statement}
 use Rattle.locating.proofs.locate.Tie as tie
 

@@ -1,0 +1,128 @@
+-- Laws of the losses read: which of two columns is first, and what is staged can be staged.
+use mathlib.Core.Path.{_≡_, refl, sym, ap, ap₂, _∙_, subst}
+use mathlib.Core.Logic.{_≢_, Ne·symm, ⊎-elim}
+use mathlib.Core.Bool.{Bool, true, false, cond}
+use mathlib.Core.List.{List}
+use Prim.Native.Nat.{ℕ, zero, suc, _+_, _-_, _*_, _≤_, _<_}
+use native.Mathlib.Omega.{arith}
+use native.Mathlib.Decide.{decLt}
+use lib.Dec.{eqb, ltb}
+use lib.ListN.{length}
+use borrow.Author.Tests.{eq-eqb, ne-eqb, lt-ltb, le-ltb}
+use Rattle.xor.specs.Asked.{Tells}
+use Rattle.xor.proofs.AskedLaws.{tells-true, tells-false}
+use Rattle.shape.specs.declared.Shape.{Shape}
+use Rattle.shape.specs.Good.{Good, size}
+use Rattle.shape.specs.Place.{column-length}
+use Rattle.shape.specs.Step.{left}
+use Rattle.shape.proofs.GoodLaws.{good-m, good-room, good-wide}
+use Rattle.rule.specs.declared.Losses.{Losses}
+use Rattle.rule.specs.declared.Losses.the-variants.{Two}
+use Rattle.rule.specs.Losses.{Beyond, Twice}
+use Rattle.rule.specs.Outer.{walk, first, second, reading}
+use Rattle.rule.proofs.OrderLaws.{walk-lt, first-in}
+use Rattle.rule.proofs.Reading.{reading-order}
+use Rattle.rule.proofs.Solve.{Order, side-column, order-near, asked-lt}
+use Rattle.solving.specs.declared.Gone.{Gone}
+use Rattle.solving.specs.Outer.{column-of}
+use Rattle.rebuild.specs.Reading.{Read}
+use Rattle.rebuild.specs.Staging.{Stageable}
+
+-- a walk upward is a step to the left
+pub walk-left : (n a b : ℕ) → left n b a ≡ walk n a b
+unfolding walk left
+walk-left n a b = refl
+
+module _ (n a b : ℕ) (ne : a ≢ b) where
+  pub first-nearer : walk n a b < walk n b a → Tells (first n a b ≡ a) true
+  unfolding first
+  first-nearer h = tells-true (rw (lt-ltb (walk n a b) (walk n b a) h) refl)
+
+  pub first-farther : walk n b a < walk n a b → Tells (first n a b ≡ a) false
+  unfolding first
+  first-farther h = tells-false (rw (le-ltb (walk n a b) (walk n b a) (omega arith), lt-ltb (walk n b a) (walk n a b) h) (Ne·symm ne))
+
+  pub first-level : walk n b a ≡ walk n a b → Tells (first n a b ≡ a) (ltb a b)
+  unfolding first
+  first-level e = rw (le-ltb (walk n a b) (walk n b a) (omega arith), le-ltb (walk n b a) (walk n a b) (omega arith)) (at (decLt a b))
+    where
+      at : Dec (a < b) → Tells (cond (ltb a b) a b ≡ a) (ltb a b)
+      at (yes h) = rw (lt-ltb a b h) (tells-true refl)
+      at (no h) = rw (le-ltb a b (omega arith)) (tells-false (Ne·symm ne))
+
+  -- the other is second
+  second-b : first n a b ≡ a → second n a b ≡ b
+  unfolding second
+  second-b e = rw (e, eq-eqb a a refl) refl
+
+  second-a : first n a b ≢ a → second n a b ≡ a
+  unfolding second
+  second-a e = rw (ne-eqb (first n a b) a e) refl
+
+-- the reading of two, in either order
+module _ (sh : Shape) (a b w t : ℕ) (ne : a ≢ b) (et : t ≡ column-length sh) where
+  pub read-first : first (sh .n) a b ≡ a → w ≡ walk (sh .n) a b → Read sh (Two a b) (record { shape = sh; first = a; second = b; walk = w; one = 0; two = t })
+  read-first e ew = record {
+    shape-is = refl;
+    first-is = sym e;
+    second-is = sym (second-b (sh .n) a b ne e);
+    walk-is = ew ∙ ap₂ (walk (sh .n)) (sym e) (sym (second-b (sh .n) a b ne e));
+    one-is = refl;
+    two-is = et;
+  }
+
+  pub read-second : first (sh .n) a b ≢ a → w ≡ walk (sh .n) b a → Read sh (Two a b) (record { shape = sh; first = b; second = a; walk = w; one = 0; two = t })
+  read-second e ew =
+      let f : first (sh .n) a b ≡ b = ⊎-elim (λ z. absurd (e z)) (λ z. z) (first-in (sh .n) a b ne) in
+      record {
+        shape-is = refl;
+        first-is = sym f;
+        second-is = sym (second-a (sh .n) a b ne e);
+        walk-is = ew ∙ ap₂ (walk (sh .n)) (sym f) (sym (second-a (sh .n) a b ne e));
+        one-is = refl;
+        two-is = et;
+      }
+
+-- ---- what is read can be staged
+
+module _ (sh : Shape) (good : Good sh) (lost : Losses) (fit : ¬ Beyond (sh .n) lost) (apart : ¬ Twice lost) where
+  abbrev F : ℕ
+  F = reading (sh .m) (sh .n) lost .0
+
+  abbrev G : ℕ
+  G = reading (sh .m) (sh .n) lost .1
+
+  abbrev S : ℕ
+  S = reading (sh .m) (sh .n) lost .2
+
+  in-order : Order (sh .m) (sh .n) F G S
+  in-order = reading-order (sh .m) (sh .n) (good-wide sh good) lost fit apart
+
+  short : S ≤ 64
+  short = ⊎-elim (λ z. omega (arith, z .1, good .m-fits .1)) (λ p. omega (arith, p .short, good .n-fits .1)) in-order
+
+  pub read-stageable : (g : Gone) → Read sh lost g → (s out : List ℕ) → length s ≡ size sh → 2 * column-length sh ≤ length out → Stageable g s out
+  unfolding column-of
+  read-stageable g r s out whole room = record {
+    good = subst Good (sym (r .shape-is)) good;
+    whole = whole ∙ ap size (sym (r .shape-is));
+    near = omega (arith, r .walk-is, order-near (sh .m) (sh .n) F G S (good-m sh good) (good-room sh good) in-order);
+    short = omega (arith, r .walk-is, short);
+    two = two;
+    one-is = r .one-is;
+    two-is = r .two-is ∙ ap column-length (sym (r .shape-is));
+    room = omega (arith, room, ap column-length (r .shape-is));
+  }
+    where
+      rows-are : g .shape .m ≡ sh .m
+      rows-are = ap (λ (z : Shape). z .m) (r .shape-is)
+
+      columns-are : g .shape .n ≡ sh .n
+      columns-are = ap (λ (z : Shape). z .n) (r .shape-is)
+
+      asked : g .walk < g .shape .m → (side : Bool) → side-column F G side < sh .n
+      asked h = asked-lt (sh .m) (sh .n) F G S (good-m sh good) (good-room sh good) in-order 0 (omega (arith, r .walk-is, rows-are))
+
+      two : g .walk < g .shape .m → (side : ℕ) → column-of g side < g .shape .n
+      two h zero = omega (arith, r .first-is, columns-are, asked h false)
+      two h (suc side) = omega (arith, r .second-is, columns-are, asked h true)
