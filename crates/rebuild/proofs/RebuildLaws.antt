@@ -2,7 +2,7 @@
 use mathlib.Core.Path.{_≡_, refl, sym, ap, _∙_}
 use mathlib.Core.Logic.{_↔_, Iff·rfl, _≢_, _⊎_, inl, inr, ⊎-swap}
 use mathlib.Core.List.{List, [], _∷_}
-use Prim.Native.Nat.{ℕ, _*_, _<_}
+use Prim.Native.Nat.{ℕ, _*_, _≤_, _<_}
 use native.Mathlib.Omega.{arith}
 use native.Mathlib.Decide.{decLt}
 use lib.ListN.{length, replicate, length-replicate, getD-replicate}
@@ -10,9 +10,11 @@ use lib.Seq.{ext-getD}
 use Rattle.shape.specs.declared.Shape.{Shape}
 use Rattle.shape.specs.declared.Answer.{Answer}
 use Rattle.shape.specs.declared.Answer.the-variants.{Done, SmallWorkspace, NoSuchPlace, SameColumn, Disagree}
+use Rattle.shape.specs.Good.{Good, size}
 use Rattle.shape.specs.Place.{column-length}
 use Rattle.shape.specs.Answers.{number, Table, First, Rises, shape-table, stripe-table}
 use Rattle.shape.proofs.AnswersLaws.{number-apart, number-done, first-one, first-clear, first-split, Lacks, Like, like-append, like-first}
+use Rattle.shape.proofs.Asked.{stripe-stop}
 use Rattle.shape.proofs.GoodLaws.{stripe-pass, stripe-rest, stripe-like}
 use Rattle.shape.proofs.OutcomeLaws.{call-one, call-some, stripe-ready-rest}
 use Rattle.rule.specs.declared.Losses.{Losses}
@@ -20,7 +22,7 @@ use Rattle.rule.specs.declared.Losses.the-variants.{Two}
 use Rattle.rule.specs.Losses.{Beyond, Twice, Agrees, Solves, Disagrees}
 use Rattle.rule.proofs.Reading.{beyond?, twice?}
 use Rattle.rule.proofs.SolvesLaws.{agrees-sym, solves-across, solves-more, solves-one, solves?}
-use Rattle.rebuild.specs.Rebuild.{rebuild-table, Otherwise-good, Cleared, Rebuild}
+use Rattle.rebuild.specs.Rebuild.{rebuild-table, Otherwise-good, Unrefused, Cleared, Rebuild}
 
 -- rebuild's own rows: those before the survivors are asked, and that one
 abbrev before-9 : Shape → Losses → ℕ → Table
@@ -59,6 +61,30 @@ module _ (sh : Shape) (lost : Losses) (s : List ℕ) (room : ℕ) where
   rows-pass : (k : ℕ) → Otherwise-good sh lost s room → First (row-9 sh lost s) k → First (rebuild-table sh lost s room) k
   unfolding rebuild-table
   rows-pass k o h = stripe-pass sh s _ k (o .shape) (o .stripe) (inr ((λ z. omega (arith, o .workspace)), inr (o .columns, inr (o .apart, h))))
+
+  -- the refusals before 9, each where those before it do not apply
+  pub unrefused-stop : (a : Answer) → First (stripe-table sh s) (number a) → number a ≢ 0 → Unrefused sh lost s room a
+  unfolding rebuild-table
+  unrefused-stop a h ne = record { good = λ e. absurd (ne e); refused = λ z. stripe-stop sh s _ (number a) h ne }
+
+  module _ (good : Good sh) (len : length s ≡ size sh) where
+    pub unrefused-5 : room < 2 * column-length sh → Unrefused sh lost s room SmallWorkspace
+    unfolding rebuild-table number
+    unrefused-5 h = record { good = λ e. absurd (omega arith); refused = λ z. stripe-pass sh s _ 5 good len (inl (h, refl)) }
+
+    module _ (wide : 2 * column-length sh ≤ room) where
+      pub unrefused-6 : Beyond (sh .n) lost → Unrefused sh lost s room NoSuchPlace
+      unfolding rebuild-table number
+      unrefused-6 h = record { good = λ e. absurd (omega arith); refused = λ z. stripe-pass sh s _ 6 good len (inr ((λ l. omega arith), inl (h, refl))) }
+
+      module _ (fit : ¬ Beyond (sh .n) lost) where
+        pub unrefused-7 : Twice lost → Unrefused sh lost s room SameColumn
+        unfolding rebuild-table number
+        unrefused-7 h = record { good = λ e. absurd (omega arith); refused = λ z. stripe-pass sh s _ 7 good len (inr ((λ l. omega arith), inr (fit, inl (h, refl)))) }
+
+        pub unrefused-done : ¬ Twice lost → Unrefused sh lost s room Done
+        unfolding number
+        unrefused-done apart = record { good = λ e. record { shape = good; stripe = len; workspace = wide; columns = fit; apart = apart }; refused = λ ne. absurd (ne refl) }
 
   pub rebuild-done : First (rebuild-table sh lost s room) 0 → Otherwise-good sh lost s room
   rebuild-done h = rows-passed 0 (inl refl) h .0

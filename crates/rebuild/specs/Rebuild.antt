@@ -1,6 +1,7 @@
 -- REBUILD (document 01, demand 2): the stripe s with some columns lost, a workspace of `room` bytes, whatever it holds;
 -- s′ and work′ are the stripe and the workspace as left. Definitions only.
 use mathlib.Core.Path.{_≡_}
+use mathlib.Core.Logic.{_≢_}
 use mathlib.Core.List.{List, [], _∷_, _++_}
 use Prim.Native.Nat.{ℕ, _*_, _≤_, _<_}
 use lib.ListN.{length, getD}
@@ -8,7 +9,7 @@ use Rattle.shape.specs.declared.Shape.{Shape}
 use Rattle.shape.specs.declared.Answer.{Answer}
 use Rattle.shape.specs.Good.{Good, size}
 use Rattle.shape.specs.Place.{column-length}
-use Rattle.shape.specs.Answers.{number, Table, stripe-table}
+use Rattle.shape.specs.Answers.{number, Table, First, stripe-table}
 use Rattle.shape.specs.Outcome.{Outcome}
 use Rattle.rule.specs.declared.Losses.{Losses}
 use Rattle.rule.specs.Losses.{Beyond, Twice, Solves, Disagrees}
@@ -31,6 +32,11 @@ pub record Otherwise-good (sh : Shape) (lost : Losses) (s : List ℕ) (room : �
   pub workspace : 2 * column-length sh ≤ room
   pub columns : ¬ Beyond (sh .n) lost
   pub apart : ¬ Twice lost
+
+-- what the refusals before 9 answer: Done where none of them applies, and else the call's own refusal
+pub record Unrefused (sh : Shape) (lost : Losses) (s : List ℕ) (room : ℕ) (a : Answer) : Type 0 where
+  pub good : number a ≡ 0 → Otherwise-good sh lost s room
+  pub refused : number a ≢ 0 → First (rebuild-table sh lost s room) (number a)
 
 -- all zero, to its end
 pub record Cleared (room : ℕ) (work′ : List ℕ) : Type 0 where

@@ -1,0 +1,50 @@
+// What a rebuild is refused for before its survivors are asked.
+ghost use mathlib.Core.Path.{_≡_};
+ghost use Rattle.xor.specs.Asked.{Tells};
+ghost use Rattle.rule.specs.Losses.{Beyond, Twice};
+ghost use Rattle.rebuild.specs.Rebuild.{Unrefused};
+use rule::Losses;
+use shape::Answer;
+use shape::Shape;
+
+// Whether a column named lost is n or more.
+pub fn beyond(n: usize, lost: Losses) -> bool
+    ensures { λ r. ⌜ Tells (Beyond n lost) r ⌝ }
+{
+    match lost {
+        Losses::None => false,
+        Losses::One(a) => n <= a,
+        Losses::Two(a, b) => n <= a || n <= b,
+    }
+}
+
+// Whether both lost columns are the same.
+pub fn twice(lost: Losses) -> bool
+    ensures { λ r. ⌜ Tells (Twice lost) r ⌝ }
+{
+    match lost {
+        Losses::None => false,
+        Losses::One(_) => false,
+        Losses::Two(a, b) => a == b,
+    }
+}
+
+// The refusals 1 to 7 of a rebuild with a workspace of `room` bytes; Done where none applies.
+pub fn refusal(shape: Shape, lost: Losses, stripe: &[u8], room: usize) -> Answer
+    ensures { λ r. ⌜ Unrefused shape lost (now (stripe .entry)) room r ⌝ }
+{
+    match shape.stripe_refusal(stripe) {
+        Answer::Done => {}
+        answer => return answer,
+    }
+    if room < 2 * shape.column_length() {
+        return Answer::SmallWorkspace;
+    }
+    if beyond(shape.n, lost) {
+        return Answer::NoSuchPlace;
+    }
+    if twice(lost) {
+        return Answer::SameColumn;
+    }
+    Answer::Done
+}
