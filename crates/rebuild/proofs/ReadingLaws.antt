@@ -13,20 +13,21 @@ use Rattle.xor.specs.Asked.{Tells}
 use Rattle.xor.proofs.AskedLaws.{tells-true, tells-false}
 use Rattle.shape.specs.declared.Shape.{Shape}
 use Rattle.shape.specs.Good.{Good, size}
-use Rattle.shape.specs.Place.{column-length}
+use Rattle.shape.specs.Place.{column-length, byte}
 use Rattle.shape.specs.Step.{left}
 use Rattle.shape.proofs.GoodLaws.{good-m, good-room, good-wide}
 use Rattle.rule.specs.declared.Losses.{Losses}
 use Rattle.rule.specs.declared.Losses.the-variants.{Two}
 use Rattle.rule.specs.Losses.{Beyond, Twice}
-use Rattle.rule.specs.Outer.{walk, first, second, reading}
+use Rattle.rule.specs.Outer.{walk, first, second, reading, Outer}
 use Rattle.rule.proofs.OrderLaws.{walk-lt, first-in}
 use Rattle.rule.proofs.Reading.{reading-order}
 use Rattle.rule.proofs.Solve.{Order, side-column, order-near, asked-lt}
 use Rattle.solving.specs.declared.Gone.{Gone}
-use Rattle.solving.specs.Outer.{column-of}
+use Rattle.solving.specs.Outer.{column-of, Solved}
+use Rattle.solving.proofs.SolvedLaws.{outer-is-solved}
 use Rattle.rebuild.specs.Reading.{Read}
-use Rattle.rebuild.specs.Staging.{Stageable}
+use Rattle.rebuild.specs.Staging.{Stageable, Staged}
 
 -- a walk upward is a step to the left
 pub walk-left : (n a b : ℕ) → left n b a ≡ walk n a b
@@ -83,46 +84,49 @@ module _ (sh : Shape) (a b w t : ℕ) (ne : a ≢ b) (et : t ≡ column-length s
         two-is = et;
       }
 
--- ---- what is read can be staged
+-- ---- what is read can be staged, and staged it is what the rule solves
 
-module _ (sh : Shape) (good : Good sh) (lost : Losses) (fit : ¬ Beyond (sh .n) lost) (apart : ¬ Twice lost) where
+-- the reading as one of the shape that it holds
+pub read-here : (sh : Shape) (lost : Losses) (g : Gone) → Read sh lost g → Read (g .shape) lost g
+read-here sh lost g r = subst (λ (z : Shape). Read z lost g) (sym (r .shape-is)) r
+
+module _ (g : Gone) (lost : Losses) (r : Read (g .shape) lost g) (good : Good (g .shape)) (fit : ¬ Beyond (g .shape .n) lost) (apart : ¬ Twice lost) (s : List ℕ) where
   abbrev F : ℕ
-  F = reading (sh .m) (sh .n) lost .0
+  F = reading (g .shape .m) (g .shape .n) lost .0
 
   abbrev G : ℕ
-  G = reading (sh .m) (sh .n) lost .1
+  G = reading (g .shape .m) (g .shape .n) lost .1
 
   abbrev S : ℕ
-  S = reading (sh .m) (sh .n) lost .2
+  S = reading (g .shape .m) (g .shape .n) lost .2
 
-  in-order : Order (sh .m) (sh .n) F G S
-  in-order = reading-order (sh .m) (sh .n) (good-wide sh good) lost fit apart
+  in-order : Order (g .shape .m) (g .shape .n) F G S
+  in-order = reading-order (g .shape .m) (g .shape .n) (good-wide (g .shape) good) lost fit apart
 
   short : S ≤ 64
   short = ⊎-elim (λ z. omega (arith, z .1, good .m-fits .1)) (λ p. omega (arith, p .short, good .n-fits .1)) in-order
 
-  pub read-stageable : (g : Gone) → Read sh lost g → (s out : List ℕ) → length s ≡ size sh → 2 * column-length sh ≤ length out → Stageable g s out
+  pub read-stageable : (out : List ℕ) → length s ≡ size (g .shape) → 2 * column-length (g .shape) ≤ length out → Stageable g s out
   unfolding column-of
-  read-stageable g r s out whole room = record {
-    good = subst Good (sym (r .shape-is)) good;
-    whole = whole ∙ ap size (sym (r .shape-is));
-    near = omega (arith, r .walk-is, order-near (sh .m) (sh .n) F G S (good-m sh good) (good-room sh good) in-order);
+  read-stageable out whole room = record {
+    good = good;
+    whole = whole;
+    near = omega (arith, r .walk-is, order-near (g .shape .m) (g .shape .n) F G S (good-m (g .shape) good) (good-room (g .shape) good) in-order);
     short = omega (arith, r .walk-is, short);
     two = two;
     one-is = r .one-is;
-    two-is = r .two-is ∙ ap column-length (sym (r .shape-is));
-    room = omega (arith, room, ap column-length (r .shape-is));
+    two-is = r .two-is;
+    room = room;
   }
     where
-      rows-are : g .shape .m ≡ sh .m
-      rows-are = ap (λ (z : Shape). z .m) (r .shape-is)
-
-      columns-are : g .shape .n ≡ sh .n
-      columns-are = ap (λ (z : Shape). z .n) (r .shape-is)
-
-      asked : g .walk < g .shape .m → (side : Bool) → side-column F G side < sh .n
-      asked h = asked-lt (sh .m) (sh .n) F G S (good-m sh good) (good-room sh good) in-order 0 (omega (arith, r .walk-is, rows-are))
+      asked : g .walk < g .shape .m → (side : Bool) → side-column F G side < g .shape .n
+      asked h = asked-lt (g .shape .m) (g .shape .n) F G S (good-m (g .shape) good) (good-room (g .shape) good) in-order 0 (omega (arith, r .walk-is))
 
       two : g .walk < g .shape .m → (side : ℕ) → column-of g side < g .shape .n
-      two h zero = omega (arith, r .first-is, columns-are, asked h false)
-      two h (suc side) = omega (arith, r .second-is, columns-are, asked h true)
+      two h zero = omega (arith, r .first-is, asked h false)
+      two h (suc side) = omega (arith, r .second-is, asked h true)
+
+  -- the symbols of the lost columns of the stripe x, which the outer-chain order solves, are in the buffer
+  pub read-staged : (x : List ℕ) → Outer (g .shape) lost s x → (out : List ℕ) → ((v : ℕ → ℕ → ℕ → ℕ) → Solved g s v → Staged g v out)
+      → Staged g (λ side d t. byte (g .shape) x t d (column-of g side)) out
+  read-staged x o out h = h _ (outer-is-solved g good lost fit apart (r .first-is) (r .second-is) (r .walk-is) s x o)
