@@ -19,7 +19,7 @@ use Rattle.solving.specs.Sums.{summed, Clear, Summed}
 use Rattle.solving.specs.Sources.{besides, Sourced}
 use Rattle.solving.specs.Outer.{Apart}
 
-module _ (sh : Shape) (p side d h b : ℕ) (list : List ℕ) (x : Sum) (c : Sourced sh p side d h b list x) where
+module _ (sh : Shape) (p side d h b : ℕ) (list : List ℕ) (x : Sum) (c : Sourced sh p side d side h b list x) where
   -- what is asked for is below m
   asked-lt : x .asked ≡ true → h < sh .m
   asked-lt q = at (decLt h (sh .m))
@@ -35,9 +35,9 @@ module _ (sh : Shape) (p side d h b : ℕ) (list : List ℕ) (x : Sum) (c : Sour
       ⊎-elim (λ z. inl (omega (arith, e))) (⊎-elim (λ z. inr (inl (omega (arith, e)))) (λ z. inr (inr (z ∙ sym e)))) (f l)
 
   pub own-stored : (s out out′ : List ℕ) (at : ℕ) → Summed s list x at 0 (sh .w) out out′
-      → Spanned (λ t. besides (sh .m) (sh .n) (byte sh s t) side p d h ⊕ cond (ltb h (sh .m)) (getD out (b + t) 0) 0) out out′ at (sh .w)
+      → Spanned (λ t. besides (sh .m) (sh .n) (byte sh s t) p side d side h ⊕ cond (ltb h (sh .m)) (getD out (b + t) 0) 0) out out′ at (sh .w)
   own-stored s out out′ at u =
       let e : sh .w - 0 ≡ sh .w = omega arith in
       let u₁ : Spanned (λ t. summed s out list x (0 + t)) out out′ (at + 0) (sh .w) = rw e at u in
-      span-same (λ t. besides (sh .m) (sh .n) (byte sh s t) side p d h ⊕ cond (ltb h (sh .m)) (getD out (b + t) 0) 0) u₁ (omega arith)
+      span-same (λ t. besides (sh .m) (sh .n) (byte sh s t) p side d side h ⊕ cond (ltb h (sh .m)) (getD out (b + t) 0) 0) u₁ (omega arith)
       (λ t l. ap (summed s out list x) (omega arith) ∙ c .sum s out t l)

@@ -54,7 +54,7 @@ module _ (m n f g s : ℕ) (pos : 1 ≤ m) (room : m + m ≤ n + 1) (o : Order m
 
   -- so what is left of the chain is the survivors'
   besides-survivors : (X : Grid) (side : Bool) → side-column f g side < n → (d : ℕ) → d < m
-      → besides m n X (number side) (side-chain n f g side d) d (d + s) ≡ chain m n (without f g X) (side-chain n f g side d)
+      → besides m n X (side-chain n f g side d) (number side) d (number side) (d + s) ≡ chain m n (without f g X) (side-chain n f g side d)
   unfolding besides
   besides-survivors X side hc d hd =
       ap₂ _⊕_ (ap₂ _⊕_ (side-parts m n f g s pos room o X d hd side hc) (ap (X d) (beside-own side hc d hd)))
@@ -93,7 +93,7 @@ module _ (g : Gone) (good : Good (g .shape)) (lost : Losses) (fit : ¬ Beyond (g
 
   at-side : (side : Bool) (d t : ℕ) → column-of g (number side) < g .shape .n → d < g .shape .m → t < g .shape .w
       → solved-byte (number side) d t
-      ≡ besides (g .shape .m) (g .shape .n) (byte (g .shape) s t) (number side) (chain-of g (number side) d) d (d + g .walk)
+      ≡ besides (g .shape .m) (g .shape .n) (byte (g .shape) s t) (chain-of g (number side) d) (number side) d (number side) (d + g .walk)
       ⊕ cond (ltb (d + g .walk) (g .shape .m)) (solved-byte (1 - number side) (d + g .walk) t) 0
   at-side side d t hc hd ht =
       ap (byte (g .shape) x t d) (column-is side)
@@ -101,7 +101,7 @@ module _ (g : Gone) (good : Good (g .shape)) (lost : Losses) (fit : ¬ Beyond (g
       ∙ ap₂ _⊕_
       (sym (besides-survivors (g .shape .m) (g .shape .n) F G (walk-of (g .shape) lost) (good-m (g .shape) good) (good-room (g .shape) good)
       (reading-order (g .shape .m) (g .shape .n) (good-wide (g .shape) good) lost fit apart) (byte (g .shape) s t) side (omega (arith, column-is side)) d hd)
-      ∙ ap₂ (λ (q h : ℕ). besides (g .shape .m) (g .shape .n) (byte (g .shape) s t) (number side) q d (d + h)) (sym (chain-is side d)) (sym e₃))
+      ∙ ap₂ (λ (q h : ℕ). besides (g .shape .m) (g .shape .n) (byte (g .shape) s t) q (number side) d (number side) (d + h)) (sym (chain-is side d)) (sym e₃))
       (ap₂ (λ (h c : ℕ). cond (ltb (d + h) (g .shape .m)) (byte (g .shape) x t (d + h) c) 0) (sym e₃) (sym (ap (column-of g) (other-is side) ∙ column-is (not side))))
 
   pub outer-is-solved : Solved g s solved-byte
@@ -109,7 +109,7 @@ module _ (g : Gone) (good : Good (g .shape)) (lost : Losses) (fit : ¬ Beyond (g
     where
       at : (side d t : ℕ) → side ≤ 1 → column-of g side < g .shape .n → d < g .shape .m → t < g .shape .w
           → solved-byte side d t
-          ≡ besides (g .shape .m) (g .shape .n) (byte (g .shape) s t) side (chain-of g side d) d (d + g .walk)
+          ≡ besides (g .shape .m) (g .shape .n) (byte (g .shape) s t) (chain-of g side d) side d side (d + g .walk)
           ⊕ cond (ltb (d + g .walk) (g .shape .m)) (solved-byte (1 - side) (d + g .walk) t) 0
       at zero d t hs hc hd ht = at-side false d t hc hd ht
       at (suc zero) d t hs hc hd ht = at-side true d t hc hd ht

@@ -1,6 +1,6 @@
 -- Laws of the sources of a lost symbol: what the list gives with the lost symbol's place taken by the parity symbol's, and the asked one's by the last.
 use mathlib.Core.Path.{_≡_, refl, sym, ap, ap₂, _∙_}
-use mathlib.Core.Logic.{_≢_}
+use mathlib.Core.Logic.{_≢_, _⊎_, ⊎-elim}
 use mathlib.Core.Bool.{true, false, cond}
 use mathlib.Core.List.{List}
 use Prim.Native.Nat.{ℕ, zero, suc, _+_, _-_, _*_, _%_, _≤_, _<_}
@@ -31,16 +31,14 @@ pub record Taken (sh : Shape) (p side d : ℕ) (l₀ l : List ℕ) : Type 0 wher
   pub rest : (i : ℕ) → i < 2 * sh .m - 2 → (1 ≤ d → i ≢ 2 * d - 1 - side) → getD l i 0 ≡ getD l₀ i 0
   pub ends : (i : ℕ) → i < 2 * sh .m - 2 → getD l i 0 + sh .w ≤ size sh
 
-module _ (sh : Shape) (good : Good sh) (p : ℕ) (hp : p < sh .n) (side : ℕ) (hs : side ≤ 1) (l₀ : List ℕ) (c : Laid sh p l₀) where
-  -- an entry of the side
-  side-entry : (s : List ℕ) (t e : ℕ) → 1 ≤ e → e < sh .m → entry s l₀ t (2 * e - 1 - side) ≡ byte sh s t e (beside side (sh .n) p e)
-  unfolding beside
-  side-entry s t e lo hi = at side hs
-    where
-      at : (side : ℕ) → side ≤ 1 → entry s l₀ t (2 * e - 1 - side) ≡ byte sh s t e (beside side (sh .n) p e)
-      at zero h = let q : 2 * e - 1 - 0 ≡ 2 * e - 1 = omega arith in ap (entry s l₀ t) q ∙ right-entry sh good l₀ p hp c s t e lo hi
-      at (suc k) h = let q : 2 * e - 1 - suc k ≡ 2 * e - 2 = omega arith in ap (entry s l₀ t) q ∙ left-entry sh good l₀ p hp c s t e lo hi
+-- an entry of a side
+side-entry : (sh : Shape) → Good sh → (p : ℕ) → p < sh .n → (l₀ : List ℕ) → Laid sh p l₀ → (side : ℕ) → side ≤ 1
+    → (s : List ℕ) (t e : ℕ) → 1 ≤ e → e < sh .m → entry s l₀ t (2 * e - 1 - side) ≡ byte sh s t e (beside side (sh .n) p e)
+unfolding beside
+side-entry sh good p hp l₀ c zero hs s t e lo hi = let q : 2 * e - 1 - 0 ≡ 2 * e - 1 = omega arith in ap (entry s l₀ t) q ∙ right-entry sh good l₀ p hp c s t e lo hi
+side-entry sh good p hp l₀ c (suc k) hs s t e lo hi = let q : 2 * e - 1 - suc k ≡ 2 * e - 2 = omega arith in ap (entry s l₀ t) q ∙ left-entry sh good l₀ p hp c s t e lo hi
 
+module _ (sh : Shape) (good : Good sh) (p : ℕ) (hp : p < sh .n) (side : ℕ) (hs : side ≤ 1) (l₀ : List ℕ) (c : Laid sh p l₀) where
   here : beside side (sh .n) p 0 ≡ p
   unfolding beside
   here = at side
@@ -70,7 +68,7 @@ module _ (sh : Shape) (good : Good sh) (p : ℕ) (hp : p < sh .n) (side : ℕ) (
       long = length-set l₀ (2 * d - 1 - side) _ ∙ c .information .long;
       sum = λ s t.
           flat-set s l₀ t (2 * d - 1 - side) (getD l₀ (2 * sh .m - 2) 0) inside (2 * sh .m - 2) (omega arith)
-          ∙ ap₂ (λ (x y : ℕ). x ⊕ (y ⊕ entry s l₀ t (2 * sh .m - 2))) (flat-others sh good l₀ p hp c s t) (side-entry s t d lo hi)
+          ∙ ap₂ (λ (x y : ℕ). x ⊕ (y ⊕ entry s l₀ t (2 * sh .m - 2))) (flat-others sh good l₀ p hp c s t) (side-entry sh good p hp l₀ c side hs s t d lo hi)
           ∙ ap (λ (z : ℕ). others (sh .m) (sh .n) (byte sh s t) p ⊕ (byte sh s t d (beside side (sh .n) p d) ⊕ z)) (parity-entry sh good l₀ p hp c s t)
           ∙ turn _ _ _;
       rest = λ i h ne. getD-set-other l₀ (2 * d - 1 - side) i _ 0 (λ e. ne lo e);
@@ -95,13 +93,13 @@ module _ (sh : Shape) (good : Good sh) (p : ℕ) (hp : p < sh .n) (side : ℕ) (
 
   -- ---- the sources
 
-  module _ (d h b : ℕ) (lt : d < h) (l : List ℕ) (u : Taken sh p side d l₀ l) where
+  module _ (d aside h b : ℕ) (ha : aside ≤ 1) (lo : 1 ≤ h) (ne : (d ≢ h) ⊎ (side ≢ aside)) (l : List ℕ) (u : Taken sh p side d l₀ l) where
     four : 2 * sh .m - 4 + 2 ≡ 2 * sh .m - 2
     four = omega (arith, good .m-fits .0)
 
     -- there is no height h
     pub sourced-top : sh .m ≤ h
-        → Sourced sh p side d h b l (record { count = 2 * sh .m - 4; a = getD l (2 * sh .m - 4) 0; asked = false; b = getD l (2 * sh .m - 4 + 1) 0 })
+        → Sourced sh p side d aside h b l (record { count = 2 * sh .m - 4; a = getD l (2 * sh .m - 4) 0; asked = false; b = getD l (2 * sh .m - 4 + 1) 0 })
     unfolding summed besides
     sourced-top far = record {
       fits = λ s out es room. record {
@@ -122,36 +120,36 @@ module _ (sh : Shape) (good : Good sh) (p : ℕ) (hp : p < sh .n) (side : ℕ) (
 
     -- the symbol of height h was asked for
     module _ (near : h < sh .m) where
-      kept : getD l (2 * h - 1 - side) 0 ≡ getD l₀ (2 * h - 1 - side) 0
-      kept = u .rest (2 * h - 1 - side) (omega arith) (λ lo e. omega arith)
+      kept : getD l (2 * h - 1 - aside) 0 ≡ getD l₀ (2 * h - 1 - aside) 0
+      kept = u .rest (2 * h - 1 - aside) (omega arith) (λ l e. ⊎-elim (λ z. omega (arith, hs)) (λ z. omega (arith, hs)) ne)
 
       last : List ℕ
-      last = set l (2 * h - 1 - side) (getD l (2 * sh .m - 4 + 1) 0)
+      last = set l (2 * h - 1 - aside) (getD l (2 * sh .m - 4 + 1) 0)
 
-      inside : 2 * h - 1 - side < length l
+      inside : 2 * h - 1 - aside < length l
       inside = omega (arith, u .long, good .m-fits .1)
 
       last-ends : (i : ℕ) → i < 2 * sh .m - 3 → getD last i 0 + sh .w ≤ size sh
       unfolding last
-      last-ends i hi = at (ℕ-discrete i (2 * h - 1 - side))
+      last-ends i hi = at (ℕ-discrete i (2 * h - 1 - aside))
         where
-          at : Dec (i ≡ 2 * h - 1 - side) → getD last i 0 + sh .w ≤ size sh
+          at : Dec (i ≡ 2 * h - 1 - aside) → getD last i 0 + sh .w ≤ size sh
           at (yes e) =
-              let f = ap (λ (j : ℕ). getD (set l (2 * h - 1 - side) (getD l (2 * sh .m - 4 + 1) 0)) j 0) e ∙ getD-set-same l (2 * h - 1 - side) (getD l (2 * sh .m - 4 + 1) 0) 0 inside in
+              let f = ap (λ (j : ℕ). getD (set l (2 * h - 1 - aside) (getD l (2 * sh .m - 4 + 1) 0)) j 0) e ∙ getD-set-same l (2 * h - 1 - aside) (getD l (2 * sh .m - 4 + 1) 0) 0 inside in
               omega (arith, f, u .ends (2 * sh .m - 4 + 1) (omega arith))
-          at (no ne) = omega (arith, getD-set-other l (2 * h - 1 - side) i (getD l (2 * sh .m - 4 + 1) 0) 0 ne, u .ends i (omega arith))
+          at (no ne) = omega (arith, getD-set-other l (2 * h - 1 - aside) i (getD l (2 * sh .m - 4 + 1) 0) 0 ne, u .ends i (omega arith))
 
-      pub next-small : getD (set l (2 * h - 1 - side) (getD l (2 * sh .m - 4 + 1) 0)) (2 * sh .m - 4) 0 ≤ 65536
+      pub next-small : getD (set l (2 * h - 1 - aside) (getD l (2 * sh .m - 4 + 1) 0)) (2 * sh .m - 4) 0 ≤ 65536
       unfolding last
       next-small = omega (arith, last-ends (2 * sh .m - 4) (omega (arith, good .m-fits .0)), good .all-fits)
 
-      pub sourced-next : Sourced sh p side d h b (set l (2 * h - 1 - side) (getD l (2 * sh .m - 4 + 1) 0))
-          (record { count = 2 * sh .m - 4; a = getD (set l (2 * h - 1 - side) (getD l (2 * sh .m - 4 + 1) 0)) (2 * sh .m - 4) 0; asked = true; b = b })
+      pub sourced-next : Sourced sh p side d aside h b (set l (2 * h - 1 - aside) (getD l (2 * sh .m - 4 + 1) 0))
+          (record { count = 2 * sh .m - 4; a = getD (set l (2 * h - 1 - aside) (getD l (2 * sh .m - 4 + 1) 0)) (2 * sh .m - 4) 0; asked = true; b = b })
       unfolding summed besides last
       sourced-next = record {
         fits = λ s out es room. record {
           small = omega (arith, good .all-fits);
-          long = length-set l (2 * h - 1 - side) _ ∙ u .long;
+          long = length-set l (2 * h - 1 - aside) _ ∙ u .long;
           few = omega (arith, good .m-fits .1);
           even = omega arith;
           each = λ i lt. omega (arith, last-ends i (omega arith));
@@ -162,8 +160,8 @@ module _ (sh : Shape) (good : Good sh) (p : ℕ) (hp : p < sh .n) (side : ℕ) (
         sum = λ s out t ht.
             next-at s last t (2 * sh .m - 4) (getD out (b + t) 0)
             ∙ ap (λ (z : ℕ). z ⊕ getD out (b + t) 0)
-            (flat-drop s l t (2 * h - 1 - side) (2 * sh .m - 4 + 1) (omega (arith, u .long, good .m-fits .1)) (omega arith)
-            ∙ ap₂ _⊕_ (ap (flat s l t) five ∙ u .sum s t) (ap (λ (a : ℕ). getD s (a + t) 0) kept ∙ side-entry s t h (omega arith) near))
+            (flat-drop s l t (2 * h - 1 - aside) (2 * sh .m - 4 + 1) (omega (arith, u .long, good .m-fits .1)) (omega arith)
+            ∙ ap₂ _⊕_ (ap (flat s l t) five ∙ u .sum s t) (ap (λ (a : ℕ). getD s (a + t) 0) kept ∙ side-entry sh good p hp l₀ c aside ha s t h lo near))
             ∙ rw (lt-ltb h (sh .m) near);
         asks = (sym (lt-ltb h (sh .m) near), λ z. refl);
       }

@@ -36,7 +36,7 @@ chain-of g (suc side) d = right (g .shape .n) (g .second) d
 pub record Solved (g : Gone) (s : List ℕ) (v : ℕ → ℕ → ℕ → ℕ) : Type 0 where
   pub each : (side d t : ℕ) → side ≤ 1 → column-of g side < g .shape .n → d < g .shape .m → t < g .shape .w
       → v side d t
-      ≡ besides (g .shape .m) (g .shape .n) (byte (g .shape) s t) side (chain-of g side d) d (d + g .walk)
+      ≡ besides (g .shape .m) (g .shape .n) (byte (g .shape) s t) (chain-of g side d) side d side (d + g .walk)
       ⊕ cond (ltb (d + g .walk) (g .shape .m)) (v (1 - side) (d + g .walk) t) 0
 
 -- the stores that solve a side's symbol of height d, from the buffer `out` to out′: first those of the symbol that it asks for, then its own

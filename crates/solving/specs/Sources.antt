@@ -19,13 +19,13 @@ unfoldable pub beside : ℕ → ℕ → ℕ → ℕ → ℕ
 beside zero n p d = right n p d
 beside (suc side) n p d = left n p d
 
--- the chain p of a grid without its symbols on a side at the heights d and h, the one of height h only if there is such a height
-unfoldable pub besides : ℕ → ℕ → Grid → ℕ → ℕ → ℕ → ℕ → ℕ
-besides m n X side p d h = (chain m n X p ⊕ X d (beside side n p d)) ⊕ cond (ltb h m) (X h (beside side n p h)) 0
+-- the chain p of a grid without its symbol of height d on a side and that of height h on the side `aside`, the latter only if there is such a height
+unfoldable pub besides : ℕ → ℕ → Grid → ℕ → ℕ → ℕ → ℕ → ℕ → ℕ
+besides m n X p side d aside h = (chain m n X p ⊕ X d (beside side n p d)) ⊕ cond (ltb h m) (X h (beside aside n p h)) 0
 
 -- the list and the sum x give that of every stripe, with the symbol at b of the buffer where the one of height h would be
-pub record Sourced (sh : Shape) (p side d h b : ℕ) (list : List ℕ) (x : Sum) : Type 0 where
+pub record Sourced (sh : Shape) (p side d aside h b : ℕ) (list : List ℕ) (x : Sum) : Type 0 where
   pub fits : (s out : List ℕ) → length s ≡ size sh → (h < sh .m → (b + sh .w ≤ length out) × (b + sh .w ≤ 262144)) → Fits s out list x (sh .w)
   pub sum : (s out : List ℕ) (t : ℕ) → t < sh .w
-      → summed s out list x t ≡ besides (sh .m) (sh .n) (byte sh s t) side p d h ⊕ cond (ltb h (sh .m)) (getD out (b + t) 0) 0
+      → summed s out list x t ≡ besides (sh .m) (sh .n) (byte sh s t) p side d aside h ⊕ cond (ltb h (sh .m)) (getD out (b + t) 0) 0
   pub asks : (x .asked ≡ ltb h (sh .m)) × (h < sh .m → x .b ≡ b)

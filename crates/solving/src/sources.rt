@@ -1,5 +1,6 @@
 // What a lost symbol is solved from: the places of its chain without those that are lost.
 ghost use mathlib.Core.Path.{_≡_};
+ghost use mathlib.Core.Logic.{_≢_, _⊎_};
 ghost use Prim.Native.Nat.{_≤_, _<_};
 ghost use lib.ListN.{length};
 ghost use Rattle.shape.specs.Good.{Good};
@@ -7,19 +8,20 @@ ghost use Rattle.solving.specs.Sources.{Sourced};
 use crate::Sum;
 use shape::Shape;
 
-// The sources of the symbol of height d on a side of chain p: its chain without that side's symbols of heights d and h, and the buffer's symbol at b in the place
-// of the one of height h. With no height h there is nothing at b. The lost symbol's place in the list is taken by the parity symbol's, the asked one's by the last.
+// The sources of the symbol of height d on a side of chain p: its chain without that symbol and without the one of height h on the side `aside`, in whose place
+// the buffer's symbol at b stands. With no height h there is nothing at b. The lost symbol's place in the list is taken by the parity symbol's, the asked one's by the last.
 pub(crate) fn sources(
     list: &mut [u16; 32],
     sh: Shape,
     p: usize,
     side: usize,
     d: usize,
+    aside: usize,
     h: usize,
     b: usize,
 ) -> Sum
-    requires { ⌜ (Good sh) × (p < sh .n) × (side ≤ 1) × (d < sh .m) × (d < h) × (length (now list) ≡ 32) ⌝ }
-    ensures { λ r. ⌜ Sourced sh p side d h b (now (list .exit)) r ⌝ }
+    requires { ⌜ (Good sh) × (p < sh .n) × (side ≤ 1) × (d < sh .m) × (aside ≤ 1) × (1 ≤ h) × ((d ≢ h) ⊎ (side ≢ aside)) × (length (now list) ≡ 32) ⌝ }
+    ensures { λ r. ⌜ Sourced sh p side d aside h b (now (list .exit)) r ⌝ }
 {
     let last = 2 * sh.m - 4;
     chain::places(list, sh, sh.walk(p));
@@ -27,7 +29,7 @@ pub(crate) fn sources(
         list[2 * d - 1 - side] = list[last + 2];
     }
     if h < sh.m {
-        list[2 * h - 1 - side] = list[last + 1];
+        list[2 * h - 1 - aside] = list[last + 1];
         return Sum {
             count: last,
             a: list[last] as usize,

@@ -1,11 +1,15 @@
 -- `own`: the sources, then their sum.
+use mathlib.Core.Logic.{inl}
+use native.Mathlib.Omega.{arith}
 use borrow.Author.Needs.{needs}
 use Rattle.solving.proofs.OwnLaws.{own-clear, own-stored}
 use Rattle.solving.proofs.outer.own.Statement.{statement}
 use Rattle.solving.proofs.outer.own.Tie as tie
 
 sources-requires : tie.Need-sources-requires
-sources-requires c κs = search needs
+sources-requires c κs =
+    let s = c .before .before .before in
+    (s .pre .0, s .pre .2, s .pre .3, s .pre .4, s .pre .3, omega (arith, s .pre .5), inl (λ e. omega (arith, s .pre .5)), s .pre .6)
 
 sum-symbol-requires : tie.Need-sum-symbol-requires
 sum-symbol-requires c κs =

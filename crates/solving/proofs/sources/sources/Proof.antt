@@ -69,11 +69,11 @@ mul-list-6 c = search needs
 element-write-list-2 : tie.Need-element-write-list-2
 element-write-list-2 c = search needs
 
-mul-t25 : tie.Need-mul-t25
-mul-t25 c = search needs
+mul-t26 : tie.Need-mul-t26
+mul-t26 c = search needs
 
-element-copy-out-t29 : tie.Need-element-copy-out-t29
-element-copy-out-t29 c = search needs
+element-copy-out-t30 : tie.Need-element-copy-out-t30
+element-copy-out-t30 c = search needs
 
 laid : (c : tie.After-places) → Laid (c .before .before .before .before .args .sh) (c .before .before .before .before .args .p) (c .places .last .0)
 laid c = rw (c .before .walk .ensures .1) at (c .places .ensures)
@@ -90,43 +90,43 @@ taken c =
     (λ z. let e : a .d ≡ 0 = omega (arith, z .0 .left) in rw (z .1, e) (taken-parity (a .sh) (s .pre .0) (a .p) (s .pre .1) (a .side) (s .pre .2) (c .before .places .last .0) l))
     (c .if1 .came)
 
-cast-t33 : tie.Need-cast-t33
-cast-t33 c =
+cast-t34 : tie.Need-cast-t34
+cast-t34 c =
     let j = c .before .before .before .before in
     let s = j .before .before .before .before .before in
     let a = s .args in
-    omega (arith, next-small (a .sh) (s .pre .0) (a .p) (s .pre .1) (a .side) (s .pre .2) _ (laid (j .before)) (a .d) (a .h) (a .b) (s .pre .4) (j .if1 .list) (taken j) (omega arith))
+    omega (arith, next-small (a .sh) (s .pre .0) (a .p) (s .pre .1) (a .side) (s .pre .2) _ (laid (j .before)) (a .d) (a .aside) (a .h) (a .b) (s .pre .4) (s .pre .5) (s .pre .6) (j .if1 .list) (taken j) (omega arith))
 
 returns : tie.Need-returns
 returns c =
     let j = c .before .before .before .before in
     let s = j .before .before .before .before .before in
     let a = s .args in
-    sourced-next (a .sh) (s .pre .0) (a .p) (s .pre .1) (a .side) (s .pre .2) _ (laid (j .before)) (a .d) (a .h) (a .b) (s .pre .4) (j .if1 .list) (taken j) (omega arith)
+    sourced-next (a .sh) (s .pre .0) (a .p) (s .pre .1) (a .side) (s .pre .2) _ (laid (j .before)) (a .d) (a .aside) (a .h) (a .b) (s .pre .4) (s .pre .5) (s .pre .6) (j .if1 .list) (taken j) (omega arith)
 
-mul-t9 : tie.Need-mul-t9
-mul-t9 c = search needs
+mul-t10 : tie.Need-mul-t10
+mul-t10 c = search needs
 
-element-copy-out-t40 : tie.Need-element-copy-out-t40
-element-copy-out-t40 c = search needs
+element-copy-out-t41 : tie.Need-element-copy-out-t41
+element-copy-out-t41 c = search needs
 
-cast-t41 : tie.Need-cast-t41
-cast-t41 c =
+cast-t42 : tie.Need-cast-t42
+cast-t42 c =
     let j = c .before .before .before in
     let s = j .before .before .before .before .before in
     omega (arith, taken j .ends (2 * s .args .sh .m - 4) (omega (arith, s .pre .0 .m-fits .0)), s .pre .0 .all-fits)
 
-add-t42 : tie.Need-add-t42
-add-t42 c = search needs
+add-t43 : tie.Need-add-t43
+add-t43 c = search needs
 
-mul-t43 : tie.Need-mul-t43
-mul-t43 c = search needs
+mul-t44 : tie.Need-mul-t44
+mul-t44 c = search needs
 
-element-copy-out-t46 : tie.Need-element-copy-out-t46
-element-copy-out-t46 c = search needs
+element-copy-out-t47 : tie.Need-element-copy-out-t47
+element-copy-out-t47 c = search needs
 
-cast-t47 : tie.Need-cast-t47
-cast-t47 c =
+cast-t48 : tie.Need-cast-t48
+cast-t48 c =
     let j = c .before .before .before .before in
     let s = j .before .before .before .before .before in
     omega (arith, taken j .ends (2 * s .args .sh .m - 4 + 1) (omega (arith, s .pre .0 .m-fits .0)), s .pre .0 .all-fits)
@@ -136,7 +136,7 @@ returns-2 c =
     let j = c .before .before .before .before in
     let s = j .before .before .before .before .before in
     let a = s .args in
-    sourced-top (a .sh) (s .pre .0) (a .p) (s .pre .1) (a .side) (s .pre .2) _ (laid (j .before)) (a .d) (a .h) (a .b) (s .pre .4) (j .if1 .list) (taken j) (omega arith)
+    sourced-top (a .sh) (s .pre .0) (a .p) (s .pre .1) (a .side) (s .pre .2) _ (laid (j .before)) (a .d) (a .aside) (a .h) (a .b) (s .pre .4) (s .pre .5) (s .pre .6) (j .if1 .list) (taken j) (omega arith)
 
 pub sources-spec : {M : Type 1} → statement M
 sources-spec =
@@ -162,15 +162,15 @@ sources-spec =
     sub-list-4
     mul-list-6
     element-write-list-2
-    mul-t25
-    element-copy-out-t29
-    cast-t33
+    mul-t26
+    element-copy-out-t30
+    cast-t34
     returns
-    mul-t9
-    element-copy-out-t40
-    cast-t41
-    add-t42
-    mul-t43
-    element-copy-out-t46
-    cast-t47
+    mul-t10
+    element-copy-out-t41
+    cast-t42
+    add-t43
+    mul-t44
+    element-copy-out-t47
+    cast-t48
     returns-2)
