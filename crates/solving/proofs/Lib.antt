@@ -4,3 +4,4 @@ pub mod SourcesLaws
 pub mod OwnLaws
 pub mod StoresLaws
 pub mod SolvedLaws
+pub mod MatchingLaws

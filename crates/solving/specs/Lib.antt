@@ -1,3 +1,4 @@
 pub mod Sums
 pub mod Sources
 pub mod Outer
+pub mod Matching

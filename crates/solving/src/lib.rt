@@ -1,10 +1,12 @@
 // A symbol solved: the sum of the other symbols of its chain, some of which may have been solved before it.
 use shape::Shape;
 
+mod matching;
 mod outer;
 mod sources;
 mod sums;
 
+pub use matching::matches;
 pub use outer::below;
 pub use outer::solve_first;
 pub use outer::solve_second;

@@ -8,7 +8,7 @@ ghost use Rattle.solving.specs.Sums.{summed, Fits, Clear, Summed};
 use crate::Sum;
 
 // The sum x: len bytes from `from` on.
-fn sum<'a>(
+pub(crate) fn sum<'a>(
     s: &'a [u8],
     out: &'a [u8],
     list: &[u16; 32],
