@@ -28,7 +28,7 @@ use Rattle.locating.specs.Locate.{found}
 use Rattle.stripe.specs.Write.{write-table}
 use Rattle.stripe.specs.Store.{store-table}
 use Rattle.locating.proofs.Explains.{explains-is-mends}
-use Rattle.rebuild.specs.Rebuild.{rebuild-table}
+use Rattle.rebuild.proofs.RebuildLaws.{rebuild-accepted}
 use Rattle.demands.specs.Cases.{Case, Holds, woven, five, sh₅, information, parity, stripe₅, lost-0-2, lost-4-0, cleared-0, flipped-0-1}
 use Rattle.demands.proofs.Tests.{all, all-true, obeys-test, obeys-by, disobeys-by, pairs-test, away-test, explains-test, explains-by, same-test, same-by, lost-test, agrees-by, bytes-by, struck-test, struck-not}
 
@@ -63,10 +63,10 @@ module _ (lost : Losses) (lent : List ℕ) (len : length lent ≡ size sh₅) (f
   solves₅ = record { long = sym len; bytes = bytes-by stripe₅ refl; obeys = obeys-by sh₅ stripe₅ refl; agrees = agrees-by sh₅ lost lent stripe₅ test }
 
   comes-back : Holds (Case.rebuilds sh₅ lost lent stripe₅)
-  unfolding number rebuild-table
+  unfolding number
   comes-back room enough = record {
     outcome = record {
-      answer = stripe-pass sh₅ lent _ 0 good₅ len (inr ((λ z. omega arith), inr (fit, inr (apart, inr ((λ h. h stripe₅ solves₅), refl)))));
+      answer = rebuild-accepted sh₅ lost lent room (record { shape = good₅; stripe = len; workspace = omega arith; columns = fit; apart = apart }) stripe₅ solves₅;
       refused = λ ne. absurd (ne refl);
       done = λ e. solves₅;
     };

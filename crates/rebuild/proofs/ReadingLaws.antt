@@ -16,6 +16,7 @@ use Rattle.shape.specs.Good.{Good, size}
 use Rattle.shape.specs.Place.{column-length, byte}
 use Rattle.shape.specs.Step.{left}
 use Rattle.shape.proofs.GoodLaws.{good-m, good-room, good-wide}
+use Rattle.shape.proofs.WalkLaws.{left-near, left-far}
 use Rattle.rule.specs.declared.Losses.{Losses}
 use Rattle.rule.specs.declared.Losses.the-variants.{Two}
 use Rattle.rule.specs.Losses.{Beyond, Twice}
@@ -30,9 +31,16 @@ use Rattle.rebuild.specs.Reading.{Read}
 use Rattle.rebuild.specs.Staging.{Stageable, Staged}
 
 -- a walk upward is a step to the left
-pub walk-left : (n a b : ℕ) → left n b a ≡ walk n a b
+walk-left : (n a b : ℕ) → left n b a ≡ walk n a b
 unfolding walk left
 walk-left n a b = refl
+
+module _ (n a b : ℕ) (hb : b < n) where
+  pub walk-near : a ≤ b → b - a ≡ walk n a b
+  walk-near h = left-near n b hb a h ∙ walk-left n a b
+
+  pub walk-far : b < a → a < n → b + n - a ≡ walk n a b
+  walk-far h ha = left-far n b hb a h ha ∙ walk-left n a b
 
 module _ (n a b : ℕ) (ne : a ≢ b) where
   pub first-nearer : walk n a b < walk n b a → Tells (first n a b ≡ a) true

@@ -2,7 +2,7 @@
 use mathlib.Core.Path.{_≡_, refl, sym, ap, _∙_}
 use mathlib.Core.Logic.{_↔_, Iff·rfl, _≢_, _⊎_, inl, inr, ⊎-swap}
 use mathlib.Core.List.{List, [], _∷_}
-use Prim.Native.Nat.{ℕ, _*_, _≤_, _<_}
+use Prim.Native.Nat.{ℕ, _*_, _<_}
 use native.Mathlib.Omega.{arith}
 use native.Mathlib.Decide.{decLt}
 use lib.ListN.{length, replicate, length-replicate, getD-replicate}
@@ -10,81 +10,63 @@ use lib.Seq.{ext-getD}
 use Rattle.shape.specs.declared.Shape.{Shape}
 use Rattle.shape.specs.declared.Answer.{Answer}
 use Rattle.shape.specs.declared.Answer.the-variants.{Done, SmallWorkspace, NoSuchPlace, SameColumn, Disagree}
-use Rattle.shape.specs.Good.{Good, size}
 use Rattle.shape.specs.Place.{column-length}
 use Rattle.shape.specs.Answers.{number, Table, First, Rises, shape-table, stripe-table}
-use Rattle.shape.proofs.AnswersLaws.{number-apart, number-done, first-one, first-clear, first-split, Lacks, Like, like-append, like-first}
-use Rattle.shape.proofs.Asked.{stripe-stop}
-use Rattle.shape.proofs.GoodLaws.{stripe-pass, stripe-rest, stripe-like}
-use Rattle.shape.proofs.OutcomeLaws.{call-one, call-some, stripe-ready-rest}
+use Rattle.shape.proofs.AnswersLaws.{number-apart, number-done, first-one, first-stop, first-pass, first-clear, first-split, Lacks, Like, like-append, like-first}
+use Rattle.shape.proofs.GoodLaws.{stripe-pass, stripe-clear, stripe-like}
+use Rattle.shape.proofs.OutcomeLaws.{Ready, ready-append, call-one, call-some, stripe-ready-rest}
 use Rattle.rule.specs.declared.Losses.{Losses}
 use Rattle.rule.specs.declared.Losses.the-variants.{Two}
 use Rattle.rule.specs.Losses.{Beyond, Twice, Agrees, Solves, Disagrees}
 use Rattle.rule.proofs.Reading.{beyond?, twice?}
 use Rattle.rule.proofs.SolvesLaws.{agrees-sym, solves-across, solves-more, solves-one, solves?}
-use Rattle.rebuild.specs.Rebuild.{rebuild-table, Otherwise-good, Unrefused, Cleared, Rebuild}
+use Rattle.rebuild.specs.Rebuild.{rebuild-table, early-table, Otherwise-good, Cleared, Rebuild}
 
--- rebuild's own rows: those before the survivors are asked, and that one
-abbrev before-9 : Shape → Losses → ℕ → Table
-before-9 sh lost room = (5, room < 2 * column-length sh) ∷ (6, Beyond (sh .n) lost) ∷ (7, Twice lost) ∷ []
-
+-- the row that asks the survivors
 abbrev row-9 : Shape → Losses → List ℕ → Table
 row-9 sh lost s = (9, Disagrees sh lost s) ∷ []
 
 module _ (sh : Shape) (lost : Losses) (s : List ℕ) (room : ℕ) where
   pub rebuild-rises : Rises 0 (rebuild-table sh lost s room)
-  unfolding shape-table stripe-table rebuild-table
+  unfolding shape-table stripe-table early-table rebuild-table
   rebuild-rises = omega arith
 
   -- ---- the rows before 9, and 9
 
-  -- where they give 0 or 9 the call is otherwise good, and row 9 decides
+  -- what they refuse the call is refused for
+  pub early-refused : (k : ℕ) → First (early-table sh lost s room) k → k ≢ 0 → First (rebuild-table sh lost s room) k
+  unfolding rebuild-table
+  early-refused k h ne = first-stop (early-table sh lost s room) (row-9 sh lost s) k h ne
+
+  -- they refuse nothing exactly where the call is otherwise good
+  pub early-good : First (early-table sh lost s room) 0 → Otherwise-good sh lost s room
+  unfolding early-table
+  early-good h =
+      let (good, len, more) = stripe-clear sh s _ h in
+      let five = first-clear 4 more in let six = first-clear 5 (five .1) in let seven = first-clear 6 (six .1) in
+      record { shape = good; stripe = len; workspace = omega (arith, five .0); columns = six .0; apart = seven .0 }
+
+  early-pass : Otherwise-good sh lost s room → First (early-table sh lost s room) 0
+  unfolding early-table
+  early-pass o = stripe-pass sh s _ 0 (o .shape) (o .stripe) (inr ((λ z. omega (arith, o .workspace)), inr (o .columns, inr (o .apart, refl))))
+
+  early-lacks : (k : ℕ) → (k ≡ 0) ⊎ (k ≡ 9) → Lacks k (early-table sh lost s room)
+  unfolding shape-table stripe-table early-table
+  early-lacks k (inl e) = omega arith
+  early-lacks k (inr e) = omega arith
+
+  -- where the table gives 0 or 9 the call is otherwise good, and row 9 decides
   rows-passed : (k : ℕ) → (k ≡ 0) ⊎ (k ≡ 9) → First (rebuild-table sh lost s room) k → Otherwise-good sh lost s room × First (row-9 sh lost s) k
   unfolding rebuild-table
-  rows-passed k is h =
-      let (good, len, more) = stripe-rest sh s _ k (past is) h in
-      let z = first-split (before-9 sh lost room) (row-9 sh lost s) k (lacks is) more in
-      let five = first-clear 4 (z .0) in let six = first-clear 5 (five .1) in let seven = first-clear 6 (six .1) in (
-        record { shape = good; stripe = len; workspace = omega (arith, five .0); columns = six .0; apart = seven .0 },
-        z .1,
-      )
-    where
-      past : (k ≡ 0) ⊎ (k ≡ 9) → (k ≡ 0) ⊎ (4 < k)
-      past (inl e) = inl e
-      past (inr e) = inr (omega arith)
-
-      lacks : (k ≡ 0) ⊎ (k ≡ 9) → Lacks k (before-9 sh lost room)
-      lacks (inl e) = omega arith
-      lacks (inr e) = omega arith
+  rows-passed k is h = let z = first-split (early-table sh lost s room) (row-9 sh lost s) k (early-lacks k is) h in (early-good (z .0), z .1)
 
   -- and where the call is otherwise good row 9 alone is left
   rows-pass : (k : ℕ) → Otherwise-good sh lost s room → First (row-9 sh lost s) k → First (rebuild-table sh lost s room) k
   unfolding rebuild-table
-  rows-pass k o h = stripe-pass sh s _ k (o .shape) (o .stripe) (inr ((λ z. omega (arith, o .workspace)), inr (o .columns, inr (o .apart, h))))
+  rows-pass k o h = first-pass (early-table sh lost s room) (row-9 sh lost s) k (early-lacks 0 (inl refl)) (early-pass o) h
 
-  -- the refusals before 9, each where those before it do not apply
-  pub unrefused-stop : (a : Answer) → First (stripe-table sh s) (number a) → number a ≢ 0 → Unrefused sh lost s room a
-  unfolding rebuild-table
-  unrefused-stop a h ne = record { good = λ e. absurd (ne e); refused = λ z. stripe-stop sh s _ (number a) h ne }
-
-  module _ (good : Good sh) (len : length s ≡ size sh) where
-    pub unrefused-5 : room < 2 * column-length sh → Unrefused sh lost s room SmallWorkspace
-    unfolding rebuild-table number
-    unrefused-5 h = record { good = λ e. absurd (omega arith); refused = λ z. stripe-pass sh s _ 5 good len (inl (h, refl)) }
-
-    module _ (wide : 2 * column-length sh ≤ room) where
-      pub unrefused-6 : Beyond (sh .n) lost → Unrefused sh lost s room NoSuchPlace
-      unfolding rebuild-table number
-      unrefused-6 h = record { good = λ e. absurd (omega arith); refused = λ z. stripe-pass sh s _ 6 good len (inr ((λ l. omega arith), inl (h, refl))) }
-
-      module _ (fit : ¬ Beyond (sh .n) lost) where
-        pub unrefused-7 : Twice lost → Unrefused sh lost s room SameColumn
-        unfolding rebuild-table number
-        unrefused-7 h = record { good = λ e. absurd (omega arith); refused = λ z. stripe-pass sh s _ 7 good len (inr ((λ l. omega arith), inr (fit, inl (h, refl)))) }
-
-        pub unrefused-done : ¬ Twice lost → Unrefused sh lost s room Done
-        unfolding number
-        unrefused-done apart = record { good = λ e. record { shape = good; stripe = len; workspace = wide; columns = fit; apart = apart }; refused = λ ne. absurd (ne refl) }
+  pub rebuild-accepted : Otherwise-good sh lost s room → (x : List ℕ) → Solves sh lost s x → First (rebuild-table sh lost s room) 0
+  rebuild-accepted o x sol = rows-pass 0 o (inr ((λ h. h x sol), refl))
 
   pub rebuild-done : First (rebuild-table sh lost s room) 0 → Otherwise-good sh lost s room
   rebuild-done h = rows-passed 0 (inl refl) h .0
@@ -100,26 +82,20 @@ module _ (sh : Shape) (lost : Losses) (s : List ℕ) (room : ℕ) where
       cleared-one : Cleared room u → Cleared room v → u ≡ v
       cleared-one c d = ext-getD 0 u v (c .long ∙ sym (d .long)) (λ i h. c .zero i (omega (arith, c .long)) ∙ sym (d .zero i (omega (arith, c .long))))
 
+  early-ready : Ready (early-table sh lost s room)
+  unfolding early-table number
+  early-ready = stripe-ready-rest sh s _ (λ g e. (
+    SmallWorkspace,
+    refl,
+    decLt room (2 * column-length sh),
+    λ p. (NoSuchPlace, refl, beyond? (sh .n) lost, λ q. (SameColumn, refl, twice? lost, λ r. tt)),
+  ))
+
   pub rebuild-some : (a : Answer) × (x u : List ℕ) × Rebuild sh lost s room a x u
   unfolding rebuild-table number
   rebuild-some =
-      let (a, x, h) = call-some {T = rebuild-table sh lost s room} s (Solves sh lost s) (stripe-ready-rest sh s _ (λ g e. (
-        SmallWorkspace,
-        refl,
-        decLt room (2 * column-length sh),
-        λ p. (
-          NoSuchPlace,
-          refl,
-          beyond? (sh .n) lost,
-          λ q. (
-            SameColumn,
-            refl,
-            twice? lost,
-            λ r.
-                (Disagree, refl, none (solves? sh g lost q r s e), λ t. tt),
-          ),
-        ),
-      ))) (λ h.
+      let (a, x, h) = call-some {T = rebuild-table sh lost s room} s (Solves sh lost s) (ready-append (early-table sh lost s room) (row-9 sh lost s) early-ready (λ h.
+      let o = early-good h in (Disagree, refl, none (solves? sh (o .shape) lost (o .columns) (o .apart) s (o .stripe)), λ t. tt))) (λ h.
       let (o, nine) = rows-passed 0 (inl refl) h in found (solves? sh (o .shape) lost (o .columns) (o .apart) s (o .stripe)) (first-clear 8 nine .0)) in
       (a, x, replicate room 0, record { outcome = h; cleared = record { long = length-replicate room 0; zero = λ i l. getD-replicate room i 0 0 l } })
     where
@@ -168,10 +144,14 @@ module _ (sh : Shape) (lost : Losses) (s : List ℕ) (room : ℕ) where
 module _ (sh : Shape) (lost lost₂ : Losses) (s s₂ : List ℕ) (room : ℕ) (len : length s ≡ length s₂)
     (beyond : Beyond (sh .n) lost ↔ Beyond (sh .n) lost₂) (twice : Twice lost ↔ Twice lost₂)
     (solves : (x : List ℕ) → Solves sh lost s x ↔ Solves sh lost₂ s₂ x) where
+  early-like : Like (early-table sh lost s room) (early-table sh lost₂ s₂ room)
+  unfolding early-table
+  early-like = like-append (stripe-table sh s) (stripe-table sh s₂) _ _ (stripe-like sh s s₂ len) (refl, Iff·rfl, (refl, beyond, (refl, twice, tt)))
+
   pub rebuild-like : Like (rebuild-table sh lost s room) (rebuild-table sh lost₂ s₂ room)
   unfolding rebuild-table
-  rebuild-like = like-append (stripe-table sh s) (stripe-table sh s₂) _ _ (stripe-like sh s s₂ len)
-      (refl, Iff·rfl, (refl, beyond, (refl, twice, (refl, ((λ h x q. h x (solves x .1 q)), (λ h x q. h x (solves x .0 q))), tt))))
+  rebuild-like = like-append (early-table sh lost s room) (early-table sh lost₂ s₂ room) (row-9 sh lost s) (row-9 sh lost₂ s₂) early-like
+      (refl, ((λ h x q. h x (solves x .1 q)), (λ h x q. h x (solves x .0 q))), tt)
 
 module _ (sh : Shape) (lost : Losses) (s s₂ : List ℕ) (len : length s ≡ length s₂) (agree : Agrees sh lost s s₂) where
   across : (x : List ℕ) → Solves sh lost s x ↔ Solves sh lost s₂ x

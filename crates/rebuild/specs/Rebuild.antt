@@ -1,7 +1,6 @@
 -- REBUILD (document 01, demand 2): the stripe s with some columns lost, a workspace of `room` bytes, whatever it holds;
 -- s′ and work′ are the stripe and the workspace as left. Definitions only.
 use mathlib.Core.Path.{_≡_}
-use mathlib.Core.Logic.{_≢_}
 use mathlib.Core.List.{List, [], _∷_, _++_}
 use Prim.Native.Nat.{ℕ, _*_, _≤_, _<_}
 use lib.ListN.{length, getD}
@@ -9,21 +8,23 @@ use Rattle.shape.specs.declared.Shape.{Shape}
 use Rattle.shape.specs.declared.Answer.{Answer}
 use Rattle.shape.specs.Good.{Good, size}
 use Rattle.shape.specs.Place.{column-length}
-use Rattle.shape.specs.Answers.{number, Table, First, stripe-table}
+use Rattle.shape.specs.Answers.{number, Table, stripe-table}
 use Rattle.shape.specs.Outcome.{Outcome}
 use Rattle.rule.specs.declared.Losses.{Losses}
 use Rattle.rule.specs.Losses.{Beyond, Twice, Solves, Disagrees}
 
 -- 5: "rebuild's workspace under 2·m·w bytes". 6: "a column is n or more". 7: "both lost columns are the same".
--- 9: "rebuild: survivors disagree".
-unfoldable pub rebuild-table : Shape → Losses → List ℕ → ℕ → Table
-rebuild-table sh lost s room =
+unfoldable pub early-table : Shape → Losses → List ℕ → ℕ → Table
+early-table sh lost s room =
     stripe-table sh s
     ++ ((5, room < 2 * column-length sh)
     ∷ (6, Beyond (sh .n) lost)
     ∷ (7, Twice lost)
-    ∷ (9, Disagrees sh lost s)
     ∷ [])
+
+-- and 9: "rebuild: survivors disagree"
+unfoldable pub rebuild-table : Shape → Losses → List ℕ → ℕ → Table
+rebuild-table sh lost s room = early-table sh lost s room ++ ((9, Disagrees sh lost s) ∷ [])
 
 -- the call is otherwise good: nothing refuses it but, maybe, what the survivors say
 pub record Otherwise-good (sh : Shape) (lost : Losses) (s : List ℕ) (room : ℕ) : Type 0 where
@@ -32,11 +33,6 @@ pub record Otherwise-good (sh : Shape) (lost : Losses) (s : List ℕ) (room : �
   pub workspace : 2 * column-length sh ≤ room
   pub columns : ¬ Beyond (sh .n) lost
   pub apart : ¬ Twice lost
-
--- what the refusals before 9 answer: Done where none of them applies, and else the call's own refusal
-pub record Unrefused (sh : Shape) (lost : Losses) (s : List ℕ) (room : ℕ) (a : Answer) : Type 0 where
-  pub good : number a ≡ 0 → Otherwise-good sh lost s room
-  pub refused : number a ≢ 0 → First (rebuild-table sh lost s room) (number a)
 
 -- all zero, to its end
 pub record Cleared (room : ℕ) (work′ : List ℕ) : Type 0 where

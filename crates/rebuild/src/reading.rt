@@ -12,14 +12,16 @@ ghost use Rattle.rebuild.specs.Reading.{Read};
 use rule::Losses;
 use shape::Shape;
 use solving::Gone;
-use solving::below;
 
 // How far it is to walk upward, modulo n, from column a to column b.
 fn upward(n: usize, a: usize, b: usize) -> usize
     requires { ⌜ (a < n) × (b < n) × (n ≤ 64) ⌝ }
     ensures { λ r. ⌜ r ≡ walk n a b ⌝ }
 {
-    below(n, b, a)
+    if b < a {
+        return b + n - a;
+    }
+    b - a
 }
 
 // Whether a is the first of two columns: the walk from it up to the other is the shorter, or both are as long and its number is smaller.
@@ -67,7 +69,7 @@ fn order(shape: Shape, a: usize, b: usize) -> Gone
 }
 
 // The lost columns in the outer-chain order; n is no column, and m is too far to walk.
-pub fn read(shape: Shape, lost: Losses) -> Gone
+pub(crate) fn read(shape: Shape, lost: Losses) -> Gone
     requires { ⌜ (Good shape) × (¬ Beyond (shape .n) lost) × (¬ Twice lost) ⌝ }
     ensures { λ r. ⌜ Read shape lost r ⌝ }
 {

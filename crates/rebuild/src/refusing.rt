@@ -1,14 +1,14 @@
 // What a rebuild is refused for before its survivors are asked.
-ghost use mathlib.Core.Path.{_≡_};
 ghost use Rattle.xor.specs.Asked.{Tells};
+ghost use Rattle.shape.specs.Answers.{number, First};
 ghost use Rattle.rule.specs.Losses.{Beyond, Twice};
-ghost use Rattle.rebuild.specs.Rebuild.{Unrefused};
+ghost use Rattle.rebuild.specs.Rebuild.{early-table};
 use rule::Losses;
 use shape::Answer;
 use shape::Shape;
 
 // Whether a column named lost is n or more.
-pub fn beyond(n: usize, lost: Losses) -> bool
+pub(crate) fn beyond(n: usize, lost: Losses) -> bool
     ensures { λ r. ⌜ Tells (Beyond n lost) r ⌝ }
 {
     match lost {
@@ -19,7 +19,7 @@ pub fn beyond(n: usize, lost: Losses) -> bool
 }
 
 // Whether both lost columns are the same.
-pub fn twice(lost: Losses) -> bool
+pub(crate) fn twice(lost: Losses) -> bool
     ensures { λ r. ⌜ Tells (Twice lost) r ⌝ }
 {
     match lost {
@@ -30,8 +30,8 @@ pub fn twice(lost: Losses) -> bool
 }
 
 // The refusals 1 to 7 of a rebuild with a workspace of `room` bytes; Done where none applies.
-pub fn refusal(shape: Shape, lost: Losses, stripe: &[u8], room: usize) -> Answer
-    ensures { λ r. ⌜ Unrefused shape lost (now (stripe .entry)) room r ⌝ }
+pub(crate) fn refusal(shape: Shape, lost: Losses, stripe: &[u8], room: usize) -> Answer
+    ensures { λ r. ⌜ First (early-table shape lost (now (stripe .entry)) room) (number r) ⌝ }
 {
     match shape.stripe_refusal(stripe) {
         Answer::Done => {}

@@ -38,7 +38,7 @@ fn second_if_lost(s: &[u8], out: &mut [u8], list: &mut [u16; 32], x: Gone, d: us
 }
 
 // Solves every symbol of the lost columns: those that nothing asks for are solved, and all that they ask for before them.
-pub fn stage(s: &[u8], out: &mut [u8], x: Gone)
+pub(crate) fn stage(s: &[u8], out: &mut [u8], x: Gone)
     requires { ⌜ Stageable x (now s) (now out) ⌝ }
     ensures { λ _. ⌜ (length (now (out .exit)) ≡ length (now (out .entry))) × ((v : ℕ → ℕ → ℕ → ℕ) → Solved x (now (s .entry)) v → Staged x v (now (out .exit))) ⌝ }
 {

@@ -7,7 +7,6 @@ mod sources;
 mod sums;
 
 pub use matching::matches;
-pub use outer::below;
 pub use outer::solve_first;
 pub use outer::solve_second;
 

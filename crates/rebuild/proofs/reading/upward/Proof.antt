@@ -1,15 +1,21 @@
--- `upward`.
-use mathlib.Core.Path.{_∙_}
-use Rattle.rebuild.proofs.ReadingLaws.{walk-left}
+-- `upward`: past column n - 1 the columns go on at 0.
+use native.Mathlib.Omega.{arith}
+use Rattle.rebuild.proofs.ReadingLaws.{walk-near, walk-far}
 use borrow.Author.Needs.{needs}
 use Rattle.rebuild.proofs.reading.upward.Statement.{statement}
 use Rattle.rebuild.proofs.reading.upward.Tie as tie
 
-below-requires : tie.Need-below-requires
-below-requires c κs = search needs
+add-result : tie.Need-add-result
+add-result c = search needs
+
+sub-result : tie.Need-sub-result
+sub-result c = search needs
 
 returns : tie.Need-returns
-returns c = let a = c .before .args in c .below .ensures .is ∙ walk-left (a .n) (a .a) (a .b)
+returns c = let s = c .before in walk-far (s .args .n) (s .args .a) (s .args .b) (s .pre .1) (omega arith) (s .pre .0)
+
+returns-2 : tie.Need-returns-2
+returns-2 c = let s = c .before in walk-near (s .args .n) (s .args .a) (s .args .b) (s .pre .1) (omega arith)
 
 pub upward-spec : {M : Type 1} → statement M
-upward-spec = tie.close (tie.spec below-requires returns)
+upward-spec = tie.close (tie.spec add-result sub-result returns returns-2)
