@@ -3,3 +3,5 @@ pub mod FillLaws
 pub mod ChooseLaws
 pub mod StagingLaws
 pub mod ReadingLaws
+pub mod CommittingLaws
+pub mod MendingLaws

@@ -14,26 +14,21 @@ use Rattle.xor.proofs.AskedLaws.{tells-true, tells-false}
 use Rattle.shape.specs.declared.Shape.{Shape}
 use Rattle.shape.specs.Good.{Good, size}
 use Rattle.shape.specs.Place.{column-length, byte}
-use Rattle.shape.specs.Step.{left}
 use Rattle.shape.proofs.GoodLaws.{good-m, good-room, good-wide}
 use Rattle.shape.proofs.WalkLaws.{left-near, left-far}
 use Rattle.rule.specs.declared.Losses.{Losses}
 use Rattle.rule.specs.declared.Losses.the-variants.{Two}
 use Rattle.rule.specs.Losses.{Beyond, Twice}
 use Rattle.rule.specs.Outer.{walk, first, second, reading, Outer}
-use Rattle.rule.proofs.OrderLaws.{walk-lt, first-in}
+use Rattle.rule.proofs.OrderLaws.{walk-left, walk-lt, first-in}
 use Rattle.rule.proofs.Reading.{reading-order}
-use Rattle.rule.proofs.Solve.{Order, side-column, order-near, asked-lt}
+use Rattle.rule.proofs.Solve.{Order, side-column, order-near, order-apart, asked-lt}
 use Rattle.solving.specs.declared.Gone.{Gone}
 use Rattle.solving.specs.Outer.{column-of, Solved}
 use Rattle.solving.proofs.SolvedLaws.{outer-is-solved}
 use Rattle.rebuild.specs.Reading.{Read}
 use Rattle.rebuild.specs.Staging.{Stageable, Staged}
-
--- a walk upward is a step to the left
-walk-left : (n a b : ℕ) → left n b a ≡ walk n a b
-unfolding walk left
-walk-left n a b = refl
+use Rattle.rebuild.specs.Committing.{Led}
 
 module _ (n a b : ℕ) (hb : b < n) where
   pub walk-near : a ≤ b → b - a ≡ walk n a b
@@ -98,7 +93,7 @@ module _ (sh : Shape) (a b w t : ℕ) (ne : a ≢ b) (et : t ≡ column-length s
 pub read-here : (sh : Shape) (lost : Losses) (g : Gone) → Read sh lost g → Read (g .shape) lost g
 read-here sh lost g r = subst (λ (z : Shape). Read z lost g) (sym (r .shape-is)) r
 
-module _ (g : Gone) (lost : Losses) (r : Read (g .shape) lost g) (good : Good (g .shape)) (fit : ¬ Beyond (g .shape .n) lost) (apart : ¬ Twice lost) (s : List ℕ) where
+module _ (g : Gone) (lost : Losses) (r : Read (g .shape) lost g) (good : Good (g .shape)) (fit : ¬ Beyond (g .shape .n) lost) (apart : ¬ Twice lost) where
   abbrev F : ℕ
   F = reading (g .shape .m) (g .shape .n) lost .0
 
@@ -114,9 +109,9 @@ module _ (g : Gone) (lost : Losses) (r : Read (g .shape) lost g) (good : Good (g
   short : S ≤ 64
   short = ⊎-elim (λ z. omega (arith, z .1, good .m-fits .1)) (λ p. omega (arith, p .short, good .n-fits .1)) in-order
 
-  pub read-stageable : (out : List ℕ) → length s ≡ size (g .shape) → 2 * column-length (g .shape) ≤ length out → Stageable g s out
+  pub read-stageable : (s out : List ℕ) → length s ≡ size (g .shape) → 2 * column-length (g .shape) ≤ length out → Stageable g s out
   unfolding column-of
-  read-stageable out whole room = record {
+  read-stageable s out whole room = record {
     good = good;
     whole = whole;
     near = omega (arith, r .walk-is, order-near (g .shape .m) (g .shape .n) F G S (good-m (g .shape) good) (good-room (g .shape) good) in-order);
@@ -134,7 +129,16 @@ module _ (g : Gone) (lost : Losses) (r : Read (g .shape) lost g) (good : Good (g
       two h zero = omega (arith, r .first-is, asked h false)
       two h (suc side) = omega (arith, r .second-is, asked h true)
 
+  -- second is lost only where first is, and no column is both
+  pub read-led : Led g
+  read-led h = ⊎-elim (λ z. absurd (omega (arith, r .second-is, z .0))) (λ p. omega (arith, r .first-is, p .first-lt)) in-order
+
+  pub read-apart : g .first < g .shape .n → g .first ≢ g .second
+  read-apart h e =
+      order-apart (g .shape .m) (g .shape .n) F G S (good-m (g .shape) good) (good-room (g .shape) good) in-order
+      (g .first) h (r .first-is) (e ∙ r .second-is)
+
   -- the symbols of the lost columns of the stripe x, which the outer-chain order solves, are in the buffer
-  pub read-staged : (x : List ℕ) → Outer (g .shape) lost s x → (out : List ℕ) → ((v : ℕ → ℕ → ℕ → ℕ) → Solved g s v → Staged g v out)
+  pub read-staged : (s x : List ℕ) → Outer (g .shape) lost s x → (out : List ℕ) → ((v : ℕ → ℕ → ℕ → ℕ) → Solved g s v → Staged g v out)
       → Staged g (λ side d t. byte (g .shape) x t d (column-of g side)) out
-  read-staged x o out h = h _ (outer-is-solved g good lost fit apart (r .first-is) (r .second-is) (r .walk-is) s x o)
+  read-staged s x o out h = h _ (outer-is-solved g good lost fit apart (r .first-is) (r .second-is) (r .walk-is) s x o)

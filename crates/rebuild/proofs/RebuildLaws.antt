@@ -12,6 +12,7 @@ use Rattle.shape.specs.declared.Answer.{Answer}
 use Rattle.shape.specs.declared.Answer.the-variants.{Done, SmallWorkspace, NoSuchPlace, SameColumn, Disagree}
 use Rattle.shape.specs.Place.{column-length}
 use Rattle.shape.specs.Answers.{number, Table, First, Rises, shape-table, stripe-table}
+use Rattle.shape.specs.Outcome.{Outcome}
 use Rattle.shape.proofs.AnswersLaws.{number-apart, number-done, first-one, first-stop, first-pass, first-clear, first-split, Lacks, Like, like-append, like-first}
 use Rattle.shape.proofs.GoodLaws.{stripe-pass, stripe-clear, stripe-like}
 use Rattle.shape.proofs.OutcomeLaws.{Ready, ready-append, call-one, call-some, stripe-ready-rest}
@@ -20,11 +21,7 @@ use Rattle.rule.specs.declared.Losses.the-variants.{Two}
 use Rattle.rule.specs.Losses.{Beyond, Twice, Agrees, Solves, Disagrees}
 use Rattle.rule.proofs.Reading.{beyond?, twice?}
 use Rattle.rule.proofs.SolvesLaws.{agrees-sym, solves-across, solves-more, solves-one, solves?}
-use Rattle.rebuild.specs.Rebuild.{rebuild-table, early-table, Otherwise-good, Cleared, Rebuild}
-
--- the row that asks the survivors
-abbrev row-9 : Shape → Losses → List ℕ → Table
-row-9 sh lost s = (9, Disagrees sh lost s) ∷ []
+use Rattle.rebuild.specs.Rebuild.{rebuild-table, early-table, late-table, Otherwise-good, Cleared, Rebuild}
 
 module _ (sh : Shape) (lost : Losses) (s : List ℕ) (room : ℕ) where
   pub rebuild-rises : Rises 0 (rebuild-table sh lost s room)
@@ -36,7 +33,7 @@ module _ (sh : Shape) (lost : Losses) (s : List ℕ) (room : ℕ) where
   -- what they refuse the call is refused for
   pub early-refused : (k : ℕ) → First (early-table sh lost s room) k → k ≢ 0 → First (rebuild-table sh lost s room) k
   unfolding rebuild-table
-  early-refused k h ne = first-stop (early-table sh lost s room) (row-9 sh lost s) k h ne
+  early-refused k h ne = first-stop (early-table sh lost s room) (late-table sh lost s) k h ne
 
   -- they refuse nothing exactly where the call is otherwise good
   pub early-good : First (early-table sh lost s room) 0 → Otherwise-good sh lost s room
@@ -56,14 +53,22 @@ module _ (sh : Shape) (lost : Losses) (s : List ℕ) (room : ℕ) where
   early-lacks k (inr e) = omega arith
 
   -- where the table gives 0 or 9 the call is otherwise good, and row 9 decides
-  rows-passed : (k : ℕ) → (k ≡ 0) ⊎ (k ≡ 9) → First (rebuild-table sh lost s room) k → Otherwise-good sh lost s room × First (row-9 sh lost s) k
+  rows-passed : (k : ℕ) → (k ≡ 0) ⊎ (k ≡ 9) → First (rebuild-table sh lost s room) k → Otherwise-good sh lost s room × First (late-table sh lost s) k
   unfolding rebuild-table
-  rows-passed k is h = let z = first-split (early-table sh lost s room) (row-9 sh lost s) k (early-lacks k is) h in (early-good (z .0), z .1)
+  rows-passed k is h = let z = first-split (early-table sh lost s room) (late-table sh lost s) k (early-lacks k is) h in (early-good (z .0), z .1)
 
   -- and where the call is otherwise good row 9 alone is left
-  rows-pass : (k : ℕ) → Otherwise-good sh lost s room → First (row-9 sh lost s) k → First (rebuild-table sh lost s room) k
+  rows-pass : (k : ℕ) → Otherwise-good sh lost s room → First (late-table sh lost s) k → First (rebuild-table sh lost s room) k
   unfolding rebuild-table
-  rows-pass k o h = first-pass (early-table sh lost s room) (row-9 sh lost s) k (early-lacks 0 (inl refl)) (early-pass o) h
+  rows-pass k o h = first-pass (early-table sh lost s room) (late-table sh lost s) k (early-lacks 0 (inl refl)) (early-pass o) h
+
+  -- so what is refused before the survivors are asked leaves the stripe, and else they decide
+  pub early-outcome : (k : ℕ) → First (early-table sh lost s room) k → k ≢ 0 → Outcome (rebuild-table sh lost s room) s (Solves sh lost s) k s
+  early-outcome k h ne = record { answer = early-refused k h ne; refused = λ z. refl; done = λ z. absurd (ne z) }
+
+  pub late-outcome : (k : ℕ) (x : List ℕ) → Otherwise-good sh lost s room → Outcome (late-table sh lost s) s (Solves sh lost s) k x
+      → Outcome (rebuild-table sh lost s room) s (Solves sh lost s) k x
+  late-outcome k x o h = record { answer = rows-pass k o (h .answer); refused = h .refused; done = h .done }
 
   pub rebuild-accepted : Otherwise-good sh lost s room → (x : List ℕ) → Solves sh lost s x → First (rebuild-table sh lost s room) 0
   rebuild-accepted o x sol = rows-pass 0 o (inr ((λ h. h x sol), refl))
@@ -94,7 +99,7 @@ module _ (sh : Shape) (lost : Losses) (s : List ℕ) (room : ℕ) where
   pub rebuild-some : (a : Answer) × (x u : List ℕ) × Rebuild sh lost s room a x u
   unfolding rebuild-table number
   rebuild-some =
-      let (a, x, h) = call-some {T = rebuild-table sh lost s room} s (Solves sh lost s) (ready-append (early-table sh lost s room) (row-9 sh lost s) early-ready (λ h.
+      let (a, x, h) = call-some {T = rebuild-table sh lost s room} s (Solves sh lost s) (ready-append (early-table sh lost s room) (late-table sh lost s) early-ready (λ h.
       let o = early-good h in (Disagree, refl, none (solves? sh (o .shape) lost (o .columns) (o .apart) s (o .stripe)), λ t. tt))) (λ h.
       let (o, nine) = rows-passed 0 (inl refl) h in found (solves? sh (o .shape) lost (o .columns) (o .apart) s (o .stripe)) (first-clear 8 nine .0)) in
       (a, x, replicate room 0, record { outcome = h; cleared = record { long = length-replicate room 0; zero = λ i l. getD-replicate room i 0 0 l } })
@@ -123,7 +128,7 @@ module _ (sh : Shape) (lost : Losses) (s : List ℕ) (room : ℕ) where
     unfolding number
     rebuild-decides o = at (solves? sh (o .shape) lost (o .columns) (o .apart) s (o .stripe))
       where
-        is : (b : Answer) → First (row-9 sh lost s) (number b) → a ≡ b
+        is : (b : Answer) → First (late-table sh lost s) (number b) → a ≡ b
         is b h = number-apart a b (first-one (rebuild-table sh lost s room) (number a) (number b) (p .outcome .answer) (rows-pass (number b) o h))
 
         at : Dec ((x : List ℕ) × Solves sh lost s x) → (Disagrees sh lost s × (a ≡ Disagree)) ⊎ ((¬ Disagrees sh lost s) × (a ≡ Done))
@@ -150,7 +155,7 @@ module _ (sh : Shape) (lost lost₂ : Losses) (s s₂ : List ℕ) (room : ℕ) (
 
   pub rebuild-like : Like (rebuild-table sh lost s room) (rebuild-table sh lost₂ s₂ room)
   unfolding rebuild-table
-  rebuild-like = like-append (early-table sh lost s room) (early-table sh lost₂ s₂ room) (row-9 sh lost s) (row-9 sh lost₂ s₂) early-like
+  rebuild-like = like-append (early-table sh lost s room) (early-table sh lost₂ s₂ room) (late-table sh lost s) (late-table sh lost₂ s₂) early-like
       (refl, ((λ h x q. h x (solves x .1 q)), (λ h x q. h x (solves x .0 q))), tt)
 
 module _ (sh : Shape) (lost : Losses) (s s₂ : List ℕ) (len : length s ≡ length s₂) (agree : Agrees sh lost s s₂) where

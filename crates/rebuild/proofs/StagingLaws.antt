@@ -118,7 +118,7 @@ unfolding place
 column-fits sh good = omega (arith, place-lt sh 0 1 0 (good-m sh good) (omega (arith, good-wide sh good, good .m-fits .0)) (good-w sh good), good .all-fits)
 
 module _ (g : Gone) (s out : List ℕ) (r : Stageable g s out) where
-  spot-fits : (side d : ℕ) → side ≤ 1 → d < g .shape .m → (spot g side d + g .shape .w ≤ length out) × (spot g side d + g .shape .w ≤ 262144)
+  pub spot-fits : (side d : ℕ) → side ≤ 1 → d < g .shape .m → (spot g side d + g .shape .w ≤ length out) × (spot g side d + g .shape .w ≤ 262144)
   spot-fits side d hs hd =
       let b = base-fits g (r .good) (r .one-is) (r .two-is) side hs in
       let f = front g (r .good) (r .one-is) (r .two-is) d hd in
@@ -154,6 +154,19 @@ stageable-like g s out out′ e r = record {
   one-is = r .one-is;
   two-is = r .two-is;
   room = omega (arith, r .room);
+}
+
+-- a stripe as long
+pub stageable-stripe : (g : Gone) (s s′ out : List ℕ) → length s′ ≡ length s → Stageable g s out → Stageable g s′ out
+stageable-stripe g s s′ out e r = record {
+  good = r .good;
+  whole = e ∙ r .whole;
+  near = r .near;
+  short = r .short;
+  two = r .two;
+  one-is = r .one-is;
+  two-is = r .two-is;
+  room = r .room;
 }
 
 -- ---- all starts solve all

@@ -3,3 +3,4 @@ pub mod Fill
 pub mod Choose
 pub mod Reading
 pub mod Staging
+pub mod Committing

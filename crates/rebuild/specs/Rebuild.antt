@@ -23,8 +23,11 @@ early-table sh lost s room =
     ∷ [])
 
 -- and 9: "rebuild: survivors disagree"
+abbrev pub late-table : Shape → Losses → List ℕ → Table
+late-table sh lost s = (9, Disagrees sh lost s) ∷ []
+
 unfoldable pub rebuild-table : Shape → Losses → List ℕ → ℕ → Table
-rebuild-table sh lost s room = early-table sh lost s room ++ ((9, Disagrees sh lost s) ∷ [])
+rebuild-table sh lost s room = early-table sh lost s room ++ late-table sh lost s
 
 -- the call is otherwise good: nothing refuses it but, maybe, what the survivors say
 pub record Otherwise-good (sh : Shape) (lost : Losses) (s : List ℕ) (room : ℕ) : Type 0 where

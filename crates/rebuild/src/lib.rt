@@ -1,5 +1,9 @@
 // Rebuild, fill and choose: from the survivors of a stripe back to its lost columns.
-// specs/ has the contract of each; the code of the calls follows.
+// Each call stands in a file of its own, and its contract in specs/ under its name.
+mod committing;
 mod reading;
+mod rebuilding;
 mod refusing;
 mod staging;
+
+pub use rebuilding::rebuild;

@@ -7,9 +7,14 @@ use native.Mathlib.Omega.{arith}
 use native.Mathlib.Decide.{decLt}
 use lib.Dec.{eqb, ltb}
 use borrow.Author.Tests.{eq-eqb, ne-eqb, lt-ltb, le-ltb}
-use Rattle.shape.specs.Step.{right}
+use Rattle.shape.specs.Step.{left, right}
 use Rattle.shape.proofs.StepLaws.{Reach, reach₂, turn, right-lt, right-reach}
 use Rattle.rule.specs.Outer.{walk, first, second}
+
+-- a walk upward is a step to the left
+pub walk-left : (n a b : ℕ) → left n b a ≡ walk n a b
+unfolding walk left
+walk-left n a b = refl
 
 module _ (n a b : ℕ) (ha : a < n) (hb : b < n) where
   pub walk-lt : walk n a b < n
@@ -29,7 +34,7 @@ module _ (n a b : ℕ) (ha : a < n) (hb : b < n) where
       reach₂ walk-reach (right-reach n a (walk n a b) ha l) (λ u v. omega arith) (λ u v. omega arith) (λ u v. omega arith) (λ u v. omega arith)
 
 -- there and back is once round
-walk-round : (n a b : ℕ) → a < n → b < n → a ≢ b → walk n a b + walk n b a ≡ n
+pub walk-round : (n a b : ℕ) → a < n → b < n → a ≢ b → walk n a b + walk n b a ≡ n
 walk-round n a b ha hb ne =
     let p = walk-lt n a b ha hb in let q = walk-lt n b a hb ha in
     reach₂ (walk-reach n a b ha hb) (walk-reach n b a hb ha) (λ u v. omega arith) (λ u v. omega arith) (λ u v. omega arith) (λ u v. omega arith)

@@ -78,7 +78,7 @@ flat-drop s l t j k hk h = at (ℕ-discrete j k)
 -- ---- the list of a chain
 
 -- a byte of the stripe by the place that the list has of its symbol
-symbol-at : (sh : Shape) (s : List ℕ) (d c t : ℕ) {a : ℕ} → a ≡ place sh d c 0 → getD s (a + t) 0 ≡ byte sh s t d c
+pub symbol-at : (sh : Shape) (s : List ℕ) (d c t : ℕ) {a : ℕ} → a ≡ place sh d c 0 → getD s (a + t) 0 ≡ byte sh s t d c
 unfolding byte
 symbol-at sh s d c t e = ap (λ (z : ℕ). getD s z 0) (ap (λ (a : ℕ). a + t) e ∙ place-add sh d c 0 t ∙ ap (place sh d c) (omega arith))
 

@@ -5,3 +5,5 @@ pub mod OwnLaws
 pub mod StoresLaws
 pub mod SolvedLaws
 pub mod MatchingLaws
+pub mod ChangedLaws
+pub mod AgreeingLaws

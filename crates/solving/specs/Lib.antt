@@ -2,3 +2,4 @@ pub mod Sums
 pub mod Sources
 pub mod Outer
 pub mod Matching
+pub mod Agreeing

@@ -1,12 +1,13 @@
 // A symbol solved: the sum of the other symbols of its chain, some of which may have been solved before it.
 use shape::Shape;
 
+mod agreeing;
 mod matching;
 mod outer;
 mod sources;
 mod sums;
 
-pub use matching::matches;
+pub use agreeing::agree;
 pub use outer::solve_first;
 pub use outer::solve_second;
 

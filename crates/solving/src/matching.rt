@@ -58,7 +58,7 @@ fn match_some<'a>(
 }
 
 // Whether the symbol of w bytes at `at` of u is the sum x.
-pub fn matches<'a>(
+pub(crate) fn matches<'a>(
     w: usize,
     s: &'a [u8],
     out: &'a [u8],

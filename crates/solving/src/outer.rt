@@ -18,7 +18,7 @@ use crate::sums::sum_symbol;
 use shape::Shape;
 
 // The column d to the left of c, modulo n, without a division.
-fn below(n: usize, c: usize, d: usize) -> usize
+pub(crate) fn below(n: usize, c: usize, d: usize) -> usize
     requires { ⌜ (c < n) × (d < n) × (n ≤ 64) ⌝ }
     ensures { λ r. ⌜ Stepped n (left n c d) r ⌝ }
 {

@@ -6,4 +6,5 @@ mod writing;
 
 pub use columns::column;
 pub use storing::raw_store;
+pub use storing::store;
 pub use writing::small_write;

@@ -10,7 +10,7 @@ use shape::Shape;
 use xor::copy;
 
 // Stores a symbol of a height in a column, and touches nothing else; whoever calls it asks within a good shape and its stripe.
-pub(crate) fn store(shape: Shape, stripe: &mut [u8], height: usize, column: usize, symbol: &[u8])
+pub fn store(shape: Shape, stripe: &mut [u8], height: usize, column: usize, symbol: &[u8])
     requires { ⌜ (Good shape) × (length (now stripe) ≡ size shape) × (height < shape .m) × (column < shape .n) × (length (now symbol) ≡ shape .w) ⌝ }
     ensures { λ _. ⌜ Set shape (now (stripe .entry)) height column (now (symbol .entry)) (now (stripe .exit)) ⌝ }
 {

@@ -1,0 +1,56 @@
+-- `agree`. The invariant: the chains before p pass. The measure: the chains to go.
+use mathlib.Core.Path.{_≡_, refl, subst}
+use Prim.Native.Nat.{ℕ, _+_, _-_, _≤_, _<_}
+use native.Mathlib.Omega.{arith}
+use native.Mathlib.Decide.{decLt}
+use lib.ListN.{length}
+use borrow.Author.Tests.{not-true, not-false}
+use Rattle.xor.proofs.AskedLaws.{tells-true, tells-false, told-no}
+use Rattle.solving.specs.Agreeing.{Passes}
+use Rattle.solving.proofs.AgreeingLaws.{passed-next}
+use Rattle.solving.proofs.agreeing.agree.Statement.{statement}
+use Rattle.solving.proofs.agreeing.agree.Tie as tie
+
+abbrev Inv-loop : tie.InvT-loop
+Inv-loop s out x list₀ p₀ list p = (p ≤ x .shape .n) × (length list ≡ 32) × ((q : ℕ) → q < p → Passes x s out q)
+
+abbrev μ-loop : tie.MeasureT-loop
+μ-loop s out x list₀ p₀ list p = x .shape .n - p
+
+loop-holds : tie.Need-loop-holds Inv-loop μ-loop
+loop-holds c = (omega arith, refl, λ q h. absurd (omega arith))
+
+passes-requires : tie.Need-passes-requires Inv-loop μ-loop
+passes-requires c κs = let at = c .before .before .before in (at .before .before .before .pre, omega arith, at .loop .inv .1)
+
+returns : tie.Need-returns Inv-loop μ-loop
+returns c = tells-false (λ all. told-no (c .before .passes .ensures .1) (not-true _ (c .if2 .taken)) (all (c .before .before .before .before .before .loop .p) (c .before .before .before .if1 .taken)))
+
+add-p : tie.Need-add-p Inv-loop μ-loop
+add-p c = omega (arith, c .before .before .before .before .before .before .before .before .pre .good .n-fits .1)
+
+loop-less : tie.Need-loop-less Inv-loop μ-loop
+loop-less c = omega arith
+
+loop-again : tie.Need-loop-again Inv-loop μ-loop
+loop-again c =
+    let at = c .before .before .before .before .before in
+    let a = at .before .before .before .args in
+    (omega arith, c .before .passes .ensures .0, passed-next (a .x) (a .s .now) (a .out .now) (at .loop .p) (at .loop .inv .2) (c .before .passes .ensures .1 .yes (not-false _ (c .if2 .left))))
+
+returns-2 : tie.Need-returns-2 Inv-loop μ-loop
+returns-2 c = tells-true (λ q h. c .before .before .loop .inv .2 q (omega arith))
+
+pub agree-spec : {M : Type 1} → statement M
+agree-spec =
+    tie.close
+    (tie.spec
+    Inv-loop
+    μ-loop
+    loop-holds
+    passes-requires
+    returns
+    add-p
+    loop-less
+    loop-again
+    returns-2)
