@@ -9,10 +9,17 @@ ghost use Rattle.checking.specs.declared.Checked.{Checked};
 ghost use Rattle.locating.specs.declared.Located.{Located};
 ghost use Rattle.checking.specs.Check.{Check};
 ghost use Rattle.locating.specs.Locate.{Locate, found};
+ghost use lib.ListN.{length};
+ghost use Rattle.shape.specs.declared.Answer.{Answer};
+ghost use Rattle.shape.specs.Answers.{number};
+ghost use Rattle.rule.specs.Losses.{named};
+ghost use Rattle.rebuild.specs.Rebuild.{Rebuild};
 use checking::check;
 use encoding::encode;
 use locating::Damage;
 use locating::locate;
+use rebuild::rebuild;
+use rule::named;
 use shape::Shape;
 
 // Sets every parity symbol of the stripe; gives the number of the answer.
@@ -45,4 +52,27 @@ pub extern "C" fn bangsorut_locate(m: usize, n: usize, w: usize, bytes: &[u8]) -
         Damage::Column(_) => 1,
         Damage::Several => 2,
     }
+}
+
+// Writes the lost columns of the stripe, `count` of a and b, and clears the workspace; gives the number of the answer.
+#[no_mangle]
+pub extern "C" fn bangsorut_rebuild(
+    m: usize,
+    n: usize,
+    w: usize,
+    count: usize,
+    a: usize,
+    b: usize,
+    bytes: &mut [u8],
+    workspace: &mut [u8],
+) -> usize
+    ensures { λ r. ⌜ ((answer : Answer) × Rebuild (shape m n w) (named count a b) (now (bytes .entry)) (length (now (workspace .entry))) answer (now (bytes .exit)) (now (workspace .exit)) × (r ≡ number answer)) ⌝ }
+{
+    let answer = rebuild(
+        Shape { m: m, n: n, w: w },
+        named(count, a, b),
+        bytes,
+        workspace,
+    );
+    answer.number()
 }

@@ -1,4 +1,4 @@
--- THE COMMIT (document 01): the staged columns written into the stripe, symbol by symbol in one fixed order. Definitions only.
+-- THE COMMIT: the staged columns written into the stripe as a list of stores, a symbol each, in one fixed order. Definitions only.
 use mathlib.Core.Path.{_≡_}
 use mathlib.Core.Bool.{cond}
 use mathlib.Core.List.{List}

@@ -2,13 +2,19 @@
 use mathlib.Core.Path.{_≡_}
 use mathlib.Core.Logic.{_⊎_}
 use mathlib.Core.List.{List}
-use Prim.Native.Nat.{ℕ, _≤_, _<_}
+use Prim.Native.Nat.{ℕ, zero, suc, _≤_, _<_}
 use lib.ListN.{length, getD}
 use Rattle.shape.specs.declared.Shape.{Shape}
 use Rattle.shape.specs.Place.{byte}
 use Rattle.rule.specs.declared.Losses.{Losses}
 use Rattle.rule.specs.declared.Losses.the-variants.{None, One, Two}
 use Rattle.rule.specs.Rule.{Obeys}
+
+-- the losses that a count and two numbers name; of a count over 2 both
+unfoldable pub named : ℕ → ℕ → ℕ → Losses
+named zero a b = None
+named (suc zero) a b = One a
+named (suc (suc more)) a b = Two a b
 
 -- "none lost", "one lost", "two lost": column c is named lost
 abbrev pub Lost : Losses → ℕ → Type 0
