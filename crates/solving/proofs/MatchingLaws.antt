@@ -31,11 +31,11 @@ module _ (s out list u : List ℕ) (x : Sum) (at : ℕ) where
   matched-found from len w r lo hi (inl z) =
       let e : from + r ≡ from + len = omega (arith, z .0) in
       inl (omega (arith, z .0), omega (arith, z .0), λ t a b. z .1 t a (omega (arith, e)))
-  matched-found from len w r lo hi (inr z) = inr (z .0, λ h. z .1 (λ t a b. h t (omega arith) (omega arith)))
+  matched-found from len w r lo hi (inr z) = inr (z .0, λ h. z .1 (λ t a b. h t a (omega arith)))
 
   -- one stretch after another
-  pub level-then : (from r : ℕ) → Level s out list x u at 0 from → Level s out list x u at from (from + r) → Level s out list x u at 0 (from + r)
-  level-then from r before next t a b = on (decLt t from)
+  pub level-then : (lo from hi : ℕ) → Level s out list x u at lo from → Level s out list x u at from hi → Level s out list x u at lo hi
+  level-then lo from hi before next t a b = on (decLt t from)
     where
       on : Dec (t < from) → summed s out list x t ≡ getD u (at + t) 0
       on (yes h) = before t a h

@@ -16,7 +16,7 @@ abbrev pub Matched : List ℕ → List ℕ → List ℕ → Sum → List ℕ →
 Matched s out list x u at from len r =
     ((r ≡ len) × Level s out list x u at from (from + len)) ⊎ ((r ≡ 0) × (¬ Level s out list x u at from (from + len)))
 
--- r of the bytes from `from` on are the same, some of them and none beyond w; or r is 0, and the w bytes are not the same
+-- r of the bytes from `from` on are the same, some of them and none beyond w; or r is 0, and those up to w are not the same
 abbrev pub Found : List ℕ → List ℕ → List ℕ → Sum → List ℕ → ℕ → ℕ → ℕ → ℕ → Type 0
 Found s out list x u at from w r =
-    ((1 ≤ r) × (from + r ≤ w) × Level s out list x u at from (from + r)) ⊎ ((r ≡ 0) × (¬ Level s out list x u at 0 w))
+    ((1 ≤ r) × (from + r ≤ w) × Level s out list x u at from (from + r)) ⊎ ((r ≡ 0) × (¬ Level s out list x u at from w))

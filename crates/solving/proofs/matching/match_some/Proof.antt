@@ -26,20 +26,12 @@ returns-2 c =
     matched-found (a .s .now) (a .out .now) (a .list .now) (a .u .now) (a .x) (a .at) (a .from) 16 (a .w) _ (omega arith) (omega arith) (c .match-part2 .ensures)
 
 match-part-requires-3 : tie.Need-match-part-requires-3
-match-part-requires-3 c κs = let s = c .before .before .before .before .before .before in (omega arith, fits-less (s .pre .0) _ (omega arith), omega arith)
+match-part-requires-3 c κs = let s = c .before .before .before .before .before in (omega arith, fits-less (s .pre .0) _ (omega arith), omega arith)
 
 returns-3 : tie.Need-returns-3
 returns-3 c =
-    let a = c .before .before .before .before .before .before .before .args in
+    let a = c .before .before .before .before .before .before .args in
     matched-found (a .s .now) (a .out .now) (a .list .now) (a .u .now) (a .x) (a .at) (a .from) 64 (a .w) _ (omega arith) (omega arith) (c .match-part3 .ensures)
-
-match-part-requires-4 : tie.Need-match-part-requires-4
-match-part-requires-4 c κs = let s = c .before .before .before .before .before .before in (omega arith, fits-less (s .pre .0) _ (omega arith), omega arith)
-
-returns-4 : tie.Need-returns-4
-returns-4 c =
-    let a = c .before .before .before .before .before .before .before .args in
-    matched-found (a .s .now) (a .out .now) (a .list .now) (a .u .now) (a .x) (a .at) (a .from) 128 (a .w) _ (omega arith) (omega arith) (c .match-part4 .ensures)
 
 pub match-some-spec : {M : Type 1} → statement M
 match-some-spec =
@@ -51,6 +43,4 @@ match-some-spec =
     match-part-requires-2
     returns-2
     match-part-requires-3
-    returns-3
-    match-part-requires-4
-    returns-4)
+    returns-3)

@@ -1,55 +1,33 @@
--- `matches`. The invariant: the bytes before `from` are the same. The measure: the bytes to go.
-use mathlib.Core.Logic.{⊎-elim}
-use Prim.Native.Nat.{_-_, _≤_}
+-- `matches`: the whole blocks, then the tail after them.
 use native.Mathlib.Omega.{arith}
-use Rattle.xor.proofs.AskedLaws.{tells-true, tells-false}
-use Rattle.solving.specs.Matching.{Level}
+use borrow.Author.Needs.{needs}
+use Rattle.xor.proofs.AskedLaws.{tells-false, told-no}
+use Rattle.solving.proofs.SumsLaws.{fits-less}
 use Rattle.solving.proofs.MatchingLaws.{level-then}
 use Rattle.solving.proofs.matching.matches.Statement.{statement}
 use Rattle.solving.proofs.matching.matches.Tie as tie
 
-abbrev Inv-loop : tie.InvT-loop
-Inv-loop w s out list x u at from₀ from = (from ≤ w) × Level s out list x u at 0 from
+sub-whole : tie.Need-sub-whole
+sub-whole c = search needs
 
-abbrev μ-loop : tie.MeasureT-loop
-μ-loop w s out list x u at from₀ from = w - from
+match-blocks-requires : tie.Need-match-blocks-requires
+match-blocks-requires c κs = let s = c .before .before .before in (fits-less (s .pre .0) _ (omega arith), omega arith, omega arith)
 
-loop-holds : tie.Need-loop-holds Inv-loop μ-loop
-loop-holds c = (omega arith, λ t a b. absurd (omega arith))
+match-tail-requires : tie.Need-match-tail-requires
+match-tail-requires c κs = let s = c .before .before .before .before .before in (s .pre .0, s .pre .1, omega arith)
 
-match-some-requires : tie.Need-match-some-requires Inv-loop μ-loop
-match-some-requires c κs = let s = c .before .before .before .before .before in (s .pre .0, s .pre .1, omega arith)
+returns : tie.Need-returns
+returns c =
+    let a = c .before .before .before .before .before .before .args in
+    let front = c .before .before .match-blocks .ensures .yes (c .before .if1 .taken) in
+    let tail = c .match-tail .ensures in
+    record {
+      yes = λ e. level-then (a .s .now) (a .out .now) (a .list .now) (a .u .now) (a .x) (a .at) 0 _ (a .w) front (tail .yes e);
+      no = λ h. tail .no (λ t lo hi. h t (omega arith) hi);
+    }
 
-returns : tie.Need-returns Inv-loop μ-loop
-returns c = tells-false (⊎-elim (λ z. absurd (omega (arith, z .0))) (λ z. z .1) (c .before .match-some .ensures))
-
-add-from : tie.Need-add-from Inv-loop μ-loop
-add-from c = ⊎-elim (λ z. omega (arith, z .1)) (λ z. absurd (omega (arith, z .0))) (c .before .match-some .ensures)
-
-loop-less : tie.Need-loop-less Inv-loop μ-loop
-loop-less c = ⊎-elim (λ z. omega (arith, z .0, z .1)) (λ z. absurd (omega (arith, z .0))) (c .before .match-some .ensures)
-
-loop-again : tie.Need-loop-again Inv-loop μ-loop
-loop-again c =
-    let at = c .before .before .before in
-    let a = at .before .before .before .before .args in
-    ⊎-elim (λ z. (z .1, level-then (a .s .now) (a .out .now) (a .list .now) (a .u .now) (a .x) (a .at) (at .loop .from) _ (at .loop .inv .1) (z .2))) (λ z. absurd (omega (arith, z .0))) (c .before .match-some .ensures)
-
-returns-2 : tie.Need-returns-2 Inv-loop μ-loop
-returns-2 c =
-    let at = c .before in
-    tells-true (λ t a b. at .loop .inv .1 t a (omega arith))
+returns-2 : tie.Need-returns-2
+returns-2 c = tells-false (λ h. told-no (c .before .match-blocks .ensures) (c .if1 .left) (λ t lo hi. h t lo (omega arith)))
 
 pub matches-spec : {M : Type 1} → statement M
-matches-spec =
-    tie.close
-    (tie.spec
-    Inv-loop
-    μ-loop
-    loop-holds
-    match-some-requires
-    returns
-    add-from
-    loop-less
-    loop-again
-    returns-2)
+matches-spec = tie.close (tie.spec sub-whole match-blocks-requires match-tail-requires returns returns-2)
