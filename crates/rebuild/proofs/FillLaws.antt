@@ -12,7 +12,7 @@ use lib.Dec.{ltb}
 use borrow.Author.Tests.{lt-ltb, le-ltb}
 use Rattle.shape.specs.declared.Shape.{Shape}
 use Rattle.shape.specs.declared.Answer.{Answer}
-use Rattle.shape.specs.declared.Answer.the-variants.{NoSuchPlace, SameColumn, BadBuffer}
+use Rattle.shape.specs.declared.Answer.the-variants.{Done, NoSuchPlace, SameColumn, BadBuffer}
 use Rattle.shape.specs.Good.{Good, size}
 use Rattle.shape.specs.Place.{column-length, place, byte}
 use Rattle.shape.specs.Answers.{number, First, Rises, shape-table, stripe-table}
@@ -54,6 +54,11 @@ module _ (sh : Shape) (s : List ℕ) (lost : Losses) (wanted room : ℕ) where
         apart = seven .0;
         buffer = omega (arith, eight .0);
       }
+
+  -- past the refusals none applies
+  pub fill-passed : (a : Answer) → First (fill-table sh s lost wanted room) (number a) → a ≡ Done → First (fill-table sh s lost wanted room) 0
+  unfolding number
+  fill-passed a h e = rw e at h
 
   pub fill-ready : Ready (fill-table sh s lost wanted room)
   unfolding fill-table number

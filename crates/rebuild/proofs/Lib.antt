@@ -5,3 +5,5 @@ pub mod StagingLaws
 pub mod ReadingLaws
 pub mod CommittingLaws
 pub mod MendingLaws
+pub mod FillingLaws
+pub mod HandedBackLaws

@@ -106,28 +106,35 @@ module _ (g : Gone) (lost : Losses) (r : Read (g .shape) lost g) (good : Good (g
   in-order : Order (g .shape .m) (g .shape .n) F G S
   in-order = reading-order (g .shape .m) (g .shape .n) (good-wide (g .shape) good) lost fit apart
 
-  short : S ≤ 64
-  short = ⊎-elim (λ z. omega (arith, z .1, good .m-fits .1)) (λ p. omega (arith, p .short, good .n-fits .1)) in-order
+  -- the walk leads somewhere, and not around; where something is asked for there are two
+  pub read-near : 1 ≤ g .walk
+  read-near = omega (arith, r .walk-is, order-near (g .shape .m) (g .shape .n) F G S (good-m (g .shape) good) (good-room (g .shape) good) in-order)
+
+  pub read-short : g .walk ≤ 64
+  read-short = ⊎-elim (λ z. omega (arith, r .walk-is, z .1, good .m-fits .1)) (λ p. omega (arith, r .walk-is, p .short, good .n-fits .1)) in-order
+
+  pub read-two : g .walk < g .shape .m → (side : ℕ) → column-of g side < g .shape .n
+  unfolding column-of
+  read-two h = at
+    where
+      asked : (side : Bool) → side-column F G side < g .shape .n
+      asked = asked-lt (g .shape .m) (g .shape .n) F G S (good-m (g .shape) good) (good-room (g .shape) good) in-order 0 (omega (arith, r .walk-is))
+
+      at : (side : ℕ) → column-of g side < g .shape .n
+      at zero = omega (arith, r .first-is, asked false)
+      at (suc side) = omega (arith, r .second-is, asked true)
 
   pub read-stageable : (s out : List ℕ) → length s ≡ size (g .shape) → 2 * column-length (g .shape) ≤ length out → Stageable g s out
-  unfolding column-of
   read-stageable s out whole room = record {
     good = good;
     whole = whole;
-    near = omega (arith, r .walk-is, order-near (g .shape .m) (g .shape .n) F G S (good-m (g .shape) good) (good-room (g .shape) good) in-order);
-    short = omega (arith, r .walk-is, short);
-    two = two;
+    near = read-near;
+    short = read-short;
+    two = read-two;
     one-is = r .one-is;
     two-is = r .two-is;
     room = room;
   }
-    where
-      asked : g .walk < g .shape .m → (side : Bool) → side-column F G side < g .shape .n
-      asked h = asked-lt (g .shape .m) (g .shape .n) F G S (good-m (g .shape) good) (good-room (g .shape) good) in-order 0 (omega (arith, r .walk-is))
-
-      two : g .walk < g .shape .m → (side : ℕ) → column-of g side < g .shape .n
-      two h zero = omega (arith, r .first-is, asked h false)
-      two h (suc side) = omega (arith, r .second-is, asked h true)
 
   -- second is lost only where first is, and no column is both
   pub read-led : Led g

@@ -15,17 +15,23 @@ use Rattle.shape.proofs.GoodLaws.{good-m, good-w, good-wide}
 use Rattle.shape.proofs.PlaceLaws.{front-lt, place-apart, place-lt}
 use Rattle.shape.proofs.Spans.{place-add}
 use Rattle.solving.specs.declared.Gone.{Gone}
-use Rattle.solving.specs.Outer.{column-of, base-of, spot, Stores, alone, after, Apart, turned, Ready}
+use Rattle.solving.specs.Outer.{column-of, base-of, spot, Stores, Apart, turned, Ready}
+use Rattle.solving.proofs.StoresLaws.{stores-keep, stores-bring}
 use Rattle.rebuild.specs.Staging.{Stageable, Right, Staged, SolvesIf, StagedFrom}
 
-module _ (g : Gone) (good : Good (g .shape)) (e1 : g .one ≡ 0) (e2 : g .two ≡ column-length (g .shape)) where
-  -- a symbol ends inside its column
-  front : (d : ℕ) → d < g .shape .m → place (g .shape) d 0 0 + g .shape .w ≤ column-length (g .shape)
-  front d hd =
-      let w : 0 < g .shape .w = good-w (g .shape) good in
-      let e : 0 + (g .shape .w - 1) ≡ g .shape .w - 1 = omega arith in
-      omega (arith, front-lt (g .shape) d (g .shape .w - 1) hd (omega arith), place-add (g .shape) d 0 0 (g .shape .w - 1) ∙ ap (place (g .shape) d 0) e)
+-- a symbol ends inside its column
+pub front : (sh : Shape) → Good sh → (d : ℕ) → d < sh .m → place sh d 0 0 + sh .w ≤ column-length sh
+front sh good d hd =
+    let w : 0 < sh .w = good-w sh good in
+    let e : 0 + (sh .w - 1) ≡ sh .w - 1 = omega arith in
+    omega (arith, front-lt sh d (sh .w - 1) hd (omega arith), place-add sh d 0 0 (sh .w - 1) ∙ ap (place sh d 0) e)
 
+-- and that inside the largest stripe
+pub column-fits : (sh : Shape) → Good sh → column-length sh ≤ most
+unfolding place
+column-fits sh good = omega (arith, place-lt sh 0 1 0 (good-m sh good) (omega (arith, good-wide sh good, good .m-fits .0)) (good-w sh good), good .all-fits)
+
+module _ (g : Gone) (good : Good (g .shape)) (e1 : g .one ≡ 0) (e2 : g .two ≡ column-length (g .shape)) where
   base-zero : base-of g 0 ≡ 0
   unfolding base-of
   base-zero = e1
@@ -42,8 +48,8 @@ module _ (g : Gone) (good : Good (g .shape)) (e1 : g .one ≡ 0) (e2 : g .two �
   -- two symbols of different sides do not meet
   sides-apart : (side d d′ : ℕ) → side ≤ 1 → d < g .shape .m → d′ < g .shape .m
       → (spot g side d + g .shape .w ≤ spot g (1 - side) d′) ⊎ (spot g (1 - side) d′ + g .shape .w ≤ spot g side d)
-  sides-apart zero d d′ hs hd hd′ = inl (omega (arith, base-zero, base-one, front d hd))
-  sides-apart (suc zero) d d′ hs hd hd′ = inr (omega (arith, base-zero, base-one, front d′ hd′))
+  sides-apart zero d d′ hs hd hd′ = inl (omega (arith, base-zero, base-one, front (g .shape) good d hd))
+  sides-apart (suc zero) d d′ hs hd hd′ = inr (omega (arith, base-zero, base-one, front (g .shape) good d′ hd′))
   sides-apart (suc (suc k)) d d′ hs hd hd′ = absurd (omega arith)
 
   -- no byte of one symbol is a byte of another
@@ -87,41 +93,24 @@ module _ (g : Gone) (good : Good (g .shape)) (e1 : g .one ≡ 0) (e2 : g .two �
 
     stores-right : (side′ d′ : ℕ) → side′ ≤ 1 → d′ < g .shape .m → {side d : ℕ} {out out′ : List ℕ} → side ≤ 1 → d < g .shape .m → Stores g v side d out out′
         → Right g v side′ d′ out → Right g v side′ d′ out′
-    stores-right side′ d′ hs′ hd′ hs hd (alone side d out out′ far u) h = store-right side d side′ d′ hs hs′ hd hd′ out out′ u h
-    stores-right side′ d′ hs′ hd′ hs hd (after side d out mid out′ near w u) h =
-        store-right side d side′ d′ hs hs′ hd hd′ mid out′ u (stores-right side′ d′ hs′ hd′ (omega arith) near w h)
+    stores-right side′ d′ hs′ hd′ hs hd w =
+        stores-keep g v (Right g v side′ d′) hs hd w (λ k i e y a b u. store-right i e side′ d′ (omega (arith, y .0)) hs′ (y .2) hd′ a b u)
 
     -- a start solves every symbol on its way
     stores-way : {side d : ℕ} {out out′ : List ℕ} → 1 ≤ g .walk → side ≤ 1 → d < g .shape .m → Stores g v side d out out′
         → (k : ℕ) → d + k * g .walk < g .shape .m → Right g v (turned k side) (d + k * g .walk) out′
-    stores-way lo hs hd (alone side d out out′ far u) zero l =
-        let e : side ≡ turned 0 side = omega arith in
-        let f : d ≡ d + 0 * g .walk = omega arith in
-        subst (λ (z : ℕ). Right g v z (d + 0 * g .walk) out′) e (subst (λ (z : ℕ). Right g v side z out′) f (u .at))
-    stores-way lo hs hd (alone side d out out′ far u) (suc k) l = absurd (omega arith)
-    stores-way lo hs hd (after side d out mid out′ near w u) zero l =
-        let e : side ≡ turned 0 side = omega arith in
-        let f : d ≡ d + 0 * g .walk = omega arith in
-        subst (λ (z : ℕ). Right g v z (d + 0 * g .walk) out′) e (subst (λ (z : ℕ). Right g v side z out′) f (u .at))
-    stores-way lo hs hd (after side d out mid out′ near w u) (suc k) l =
-        let e : turned k (1 - side) ≡ turned (suc k) side = omega arith in
-        let f : d + g .walk + k * g .walk ≡ d + suc k * g .walk = omega arith in
-        subst (λ (z : ℕ). Right g v z (d + suc k * g .walk) out′) e
-        (subst (λ (z : ℕ). Right g v (turned k (1 - side)) z out′) f
-        (store-right side d (turned k (1 - side)) (d + g .walk + k * g .walk) hs (omega arith) hd (omega arith) mid out′ u
-        (stores-way lo (omega arith) near w k (omega arith))))
+    stores-way {side} {d} lo hs hd w k l =
+        stores-bring g v (Right g v (turned k side) (d + k * g .walk)) lo hs hd w k l
+        (λ i e y a b u. subst (λ (z : ℕ). Right g v z (d + k * g .walk) b) (y .0) (subst (λ (z : ℕ). Right g v i z b) (y .1) (u .at)))
+        (λ j i e h y a b u. store-right i e (turned k side) (d + k * g .walk) (omega (arith, y .0)) (omega arith) (y .2) l a b u)
 
 -- ---- a side is ready to be solved
-
-column-fits : (sh : Shape) → Good sh → column-length sh ≤ most
-unfolding place
-column-fits sh good = omega (arith, place-lt sh 0 1 0 (good-m sh good) (omega (arith, good-wide sh good, good .m-fits .0)) (good-w sh good), good .all-fits)
 
 module _ (g : Gone) (s out : List ℕ) (r : Stageable g s out) where
   pub spot-fits : (side d : ℕ) → side ≤ 1 → d < g .shape .m → (spot g side d + g .shape .w ≤ length out) × (spot g side d + g .shape .w ≤ 262144)
   spot-fits side d hs hd =
       let b = base-fits g (r .good) (r .one-is) (r .two-is) side hs in
-      let f = front g (r .good) (r .one-is) (r .two-is) d hd in
+      let f = front (g .shape) (r .good) d hd in
       (omega (arith, b, f, r .room), omega (arith, b, f, column-fits (g .shape) (r .good)))
 
   spots-apart : (side side′ d d′ : ℕ) → side ≤ 1 → side′ ≡ 1 - side → d < g .shape .m → d′ < g .shape .m → Apart (spot g side d) (spot g side′ d′) (g .shape .w)

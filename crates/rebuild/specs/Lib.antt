@@ -4,3 +4,5 @@ pub mod Choose
 pub mod Reading
 pub mod Staging
 pub mod Committing
+pub mod Filling
+pub mod HandedBack

@@ -8,7 +8,7 @@ use solving::Gone;
 use solving::solve_first;
 use solving::solve_second;
 
-fn lesser(a: usize, b: usize) -> usize
+pub(crate) fn lesser(a: usize, b: usize) -> usize
     ensures { λ r. ⌜ Lesser a b r ⌝ }
 {
     if a < b {

@@ -35,6 +35,11 @@ pub slot-unslot : (sh : Shape) (k : ℕ) → k < sh .m → slot sh (unslot sh k)
 unfolding unslot slot row
 slot-unslot sh k h = omega arith
 
+-- k heights up is k slots down
+pub slot-up : (sh : Shape) (d k : ℕ) → d + k < sh .m → slot sh (d + k) + k ≡ slot sh d
+unfolding slot row
+slot-up sh d k h = omega arith
+
 -- ---- place, and back: whose byte stands at place i
 
 unfoldable pub column-at : Shape → ℕ → ℕ
@@ -66,6 +71,10 @@ module _ (sh : Shape) where
   -- the front of a buffer is a column of its own
   pub front-lt : (d t : ℕ) → d < sh .m → t < sh .w → place sh d 0 t < column-length sh
   front-lt d t hd ht = omega (arith, place-spot d 0 t, spot-lt d t hd ht)
+
+  pub place-up : (d k c t : ℕ) → d + k < sh .m → k * sh .w + place sh (d + k) c t ≡ place sh d c t
+  unfolding place
+  place-up d k c t h = omega (arith, ap (λ (x : ℕ). x * sh .w) (slot-up sh d k h))
 
   pub column-at-place : (d c t : ℕ) → d < sh .m → t < sh .w → column-at sh (place sh d c t) ≡ c
   unfolding column-at

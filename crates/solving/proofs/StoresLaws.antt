@@ -95,6 +95,34 @@ pub stores-here : (g : Gone) (v : ℕ → ℕ → ℕ → ℕ) {side d : ℕ} {o
 stores-here g v (alone side d out out′ far u) t l = u .at t l
 stores-here g v (after side d out mid out′ near w u) t l = u .at t l
 
+-- the k-th symbol of the way from a side's symbol of height d is that of height e of side i; and it is stored
+abbrev pub OnWay : Gone → ℕ → ℕ → ℕ → ℕ → ℕ → Type 0
+OnWay g side d k i e = (i ≡ turned k side) × (e ≡ d + k * g .walk) × (e < g .shape .m)
+
+abbrev pub Stored : Gone → (ℕ → ℕ → ℕ → ℕ) → ℕ → ℕ → List ℕ → List ℕ → Type 0
+Stored g v i e out out′ = Spanned (v i e) out out′ (spot g i e) (g .shape .w)
+
+module _ (g : Gone) (v : ℕ → ℕ → ℕ → ℕ) (Q : List ℕ → Type 0) where
+  -- what each store of the way keeps is kept
+  pub stores-keep : {side d : ℕ} {out out′ : List ℕ} → side ≤ 1 → d < g .shape .m → Stores g v side d out out′
+      → ((k i e : ℕ) → OnWay g side d k i e → (a b : List ℕ) → Stored g v i e a b → Q a → Q b) → Q out → Q out′
+  stores-keep hs hd (alone side d out out′ far u) keep q = keep 0 side d (omega arith, omega arith, hd) out out′ u q
+  stores-keep hs hd (after side d out mid out′ near w u) keep q =
+      keep 0 side d (omega arith, omega arith, hd) mid out′ u
+      (stores-keep (omega arith) near w (λ k i e y. keep (suc k) i e (omega arith, omega arith, y .2)) q)
+
+  -- what the k-th store brings about, and those after it keep, holds in the end; after it are those of the symbols that lead to it
+  pub stores-bring : {side d : ℕ} {out out′ : List ℕ} → 1 ≤ g .walk → side ≤ 1 → d < g .shape .m → Stores g v side d out out′ → (k : ℕ) → d + k * g .walk < g .shape .m
+      → ((i e : ℕ) → OnWay g side d k i e → (a b : List ℕ) → Stored g v i e a b → Q b)
+      → ((j i e : ℕ) → j < k → OnWay g side d j i e → (a b : List ℕ) → Stored g v i e a b → Q a → Q b) → Q out′
+  stores-bring lo hs hd (alone side d out out′ far u) zero l here keep = here side d (omega arith, omega arith, hd) out out′ u
+  stores-bring lo hs hd (alone side d out out′ far u) (suc k) l here keep = absurd (omega arith)
+  stores-bring lo hs hd (after side d out mid out′ near w u) zero l here keep = here side d (omega arith, omega arith, hd) mid out′ u
+  stores-bring lo hs hd (after side d out mid out′ near w u) (suc k) l here keep =
+      keep 0 side d (omega arith) (omega arith, omega arith, hd) mid out′ u
+      (stores-bring lo (omega arith) near w k (omega arith) (λ i e y. here i e (omega arith, omega arith, y .2))
+      (λ j i e h y. keep (suc j) i e (omega arith) (omega arith, omega arith, y .2)))
+
 module _ (g : Gone) (s : List ℕ) (v : ℕ → ℕ → ℕ → ℕ) (sol : Solved g s v) (side d : ℕ) (hs : side ≤ 1) (hc : column-of g side < g .shape .n) (hd : d < g .shape .m)
     (p b at : ℕ) (ep : p ≡ chain-of g side d) (ea : at ≡ spot g side d) (out mid out′ : List ℕ)
     (u : Spanned (λ t. besides (g .shape .m) (g .shape .n) (byte (g .shape) s t) p side d side (d + g .walk) ⊕ cond (ltb (d + g .walk) (g .shape .m)) (getD mid (b + t) 0) 0) mid out′ at (g .shape .w)) where
