@@ -14,10 +14,12 @@ ghost use Rattle.shape.specs.declared.Answer.{Answer};
 ghost use Rattle.shape.specs.Answers.{number};
 ghost use Rattle.rule.specs.Losses.{named};
 ghost use Rattle.rebuild.specs.Rebuild.{Rebuild};
+ghost use Rattle.rebuild.specs.Fill.{Fill};
 use checking::check;
 use encoding::encode;
 use locating::Damage;
 use locating::locate;
+use rebuild::fill;
 use rebuild::rebuild;
 use rule::named;
 use shape::Shape;
@@ -73,6 +75,31 @@ pub extern "C" fn bangsorut_rebuild(
         named(count, a, b),
         bytes,
         workspace,
+    );
+    answer.number()
+}
+
+// Puts a lost column of the stripe, `count` of a and b being lost, into the answer buffer; gives the number of the answer.
+#[no_mangle]
+pub extern "C" fn bangsorut_fill(
+    m: usize,
+    n: usize,
+    w: usize,
+    bytes: &[u8],
+    count: usize,
+    a: usize,
+    b: usize,
+    wanted: usize,
+    buffer: &mut [u8],
+) -> usize
+    ensures { λ r. ⌜ ((answer : Answer) × Fill (shape m n w) (now (bytes .entry)) (named count a b) wanted (now (buffer .entry)) answer (now (buffer .exit)) × (r ≡ number answer)) ⌝ }
+{
+    let answer = fill(
+        Shape { m: m, n: n, w: w },
+        bytes,
+        named(count, a, b),
+        wanted,
+        buffer,
     );
     answer.number()
 }

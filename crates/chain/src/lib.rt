@@ -1,6 +1,6 @@
 // Along a chain: the XOR of its symbols, a block at a time and in registers.
 // Every call that computes a parity goes through `others` or `difference`; nothing else walks a chain.
-ghost use Prim.Native.Nat.{ℕ, _+_};
+ghost use Prim.Native.Nat.{ℕ, _+_, _<_};
 ghost use mathlib.Core.Path.{_≡_};
 ghost use lib.ListN.{length};
 ghost use Rattle.xor.specs.Block.{longest, Block};
@@ -89,8 +89,8 @@ fn note(list: &mut [u16; 32], sh: Shape, l: usize, r: usize, base: usize, start:
     }
 }
 
-// Notes in the list where the symbols of the chain that wk walks start, the parity symbol last; whoever calls it has a walk of a good shape.
-pub fn places(list: &mut [u16; 32], sh: Shape, wk: Walk)
+// Notes in the list where the symbols of the chain that wk walks start, the parity symbol last.
+fn lay(list: &mut [u16; 32], sh: Shape, wk: Walk)
     requires { ⌜ (Good sh) × (Walks sh (wk .p) wk) × (length (now list) ≡ 32) ⌝ }
     ensures { λ _. ⌜ Laid sh (wk .p) (now (list .exit)) ⌝ }
 {
@@ -100,4 +100,12 @@ pub fn places(list: &mut [u16; 32], sh: Shape, wk: Walk)
     list[last - 2] = wk.x as u16;
     list[last - 1] = wk.y as u16;
     list[last] = wk.at as u16;
+}
+
+// Notes in the list where the symbols of chain p start, the parity symbol last; whoever calls it has a good shape and a chain of it.
+pub fn places(list: &mut [u16; 32], sh: Shape, p: usize)
+    requires { ⌜ (Good sh) × (p < sh .n) × (length (now list) ≡ 32) ⌝ }
+    ensures { λ _. ⌜ Laid sh p (now (list .exit)) ⌝ }
+{
+    lay(list, sh, sh.walk(p));
 }

@@ -57,6 +57,7 @@ fn agrees<'a>(s: &'a [u8], out: &'a [u8], list: &mut [u16; 32], x: Gone, p: usiz
     let d = apart(sh, x.first, p);
     let h = apart(sh, p, x.second);
     let b = spot(sh, x.two, h);
+    chain::places(list, sh, p);
     if d < sh.m {
         let from = sources(list, sh, p, 1, d, 0, h, b);
         return matches(sh.w, s, out, list, from, out, x.one + sh.place(d, 0));

@@ -56,6 +56,7 @@ fn own(
     requires { ⌜ (Good sh) × (length (now s) ≡ size sh) × (p < sh .n) × (side ≤ 1) × (d < sh .m) × (d < h) × (length (now list) ≡ 32) × (at + sh .w ≤ length (now out)) × (h < sh .m → (b + sh .w ≤ length (now out)) × (b + sh .w ≤ 262144) × Apart at b (sh .w)) ⌝ }
     ensures { λ _. ⌜ (length (now (list .exit)) ≡ 32) × (Spanned (λ t. besides (sh .m) (sh .n) (byte sh (now (s .entry)) t) p side d side h ⊕ cond (ltb h (sh .m)) (getD (now (out .entry)) (b + t) 0) 0) (now (out .entry)) (now (out .exit)) at (sh .w)) ⌝ }
 {
+    chain::places(list, sh, p);
     let from = sources(list, sh, p, side, d, side, h, b);
     sum_symbol(sh.w, s, out, list, from, at);
 }

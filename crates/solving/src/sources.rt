@@ -2,13 +2,13 @@
 ghost use mathlib.Core.Path.{_≡_};
 ghost use mathlib.Core.Logic.{_≢_, _⊎_};
 ghost use Prim.Native.Nat.{_≤_, _<_};
-ghost use lib.ListN.{length};
 ghost use Rattle.shape.specs.Good.{Good};
+ghost use Rattle.chain.specs.Places.{Laid};
 ghost use Rattle.solving.specs.Sources.{Sourced};
 use crate::Sum;
 use shape::Shape;
 
-// The sources of the symbol of height d on a side of chain p: its chain without that symbol and without the one of height h on the side `aside`, in whose place
+// The sources of the symbol of height d on a side of chain p, whose places are in the list: the chain without that symbol and without the one of height h on the side `aside`, in whose place
 // the buffer's symbol at b stands. With no height h there is nothing at b. The lost symbol's place in the list is taken by the parity symbol's, the asked one's by the last.
 pub(crate) fn sources(
     list: &mut [u16; 32],
@@ -20,11 +20,10 @@ pub(crate) fn sources(
     h: usize,
     b: usize,
 ) -> Sum
-    requires { ⌜ (Good sh) × (p < sh .n) × (side ≤ 1) × (d < sh .m) × (aside ≤ 1) × (1 ≤ h) × ((d ≢ h) ⊎ (side ≢ aside)) × (length (now list) ≡ 32) ⌝ }
+    requires { ⌜ (Good sh) × (p < sh .n) × (side ≤ 1) × (d < sh .m) × (aside ≤ 1) × (1 ≤ h) × ((d ≢ h) ⊎ (side ≢ aside)) × (Laid sh p (now list)) ⌝ }
     ensures { λ r. ⌜ Sourced sh p side d aside h b (now (list .exit)) r ⌝ }
 {
     let last = 2 * sh.m - 4;
-    chain::places(list, sh, sh.walk(p));
     if 0 < d {
         list[2 * d - 1 - side] = list[last + 2];
     }

@@ -6,14 +6,17 @@ use Rattle.solving.proofs.OwnLaws.{own-clear, own-stored}
 use Rattle.solving.proofs.outer.own.Statement.{statement}
 use Rattle.solving.proofs.outer.own.Tie as tie
 
+places-requires : tie.Need-places-requires
+places-requires c κs = search needs
+
 sources-requires : tie.Need-sources-requires
 sources-requires c κs =
-    let s = c .before .before .before in
-    (s .pre .0, s .pre .2, s .pre .3, s .pre .4, s .pre .3, omega (arith, s .pre .5), inl (λ e. omega (arith, s .pre .5)), s .pre .6)
+    let s = c .before .before .before .before .before in
+    (s .pre .0, s .pre .2, s .pre .3, s .pre .4, s .pre .3, omega (arith, s .pre .5), inl (λ e. omega (arith, s .pre .5)), c .before .places .ensures)
 
 sum-symbol-requires : tie.Need-sum-symbol-requires
 sum-symbol-requires c κs =
-    let s = c .before .before .before .before .before .before in
+    let s = c .before .before .before .before .before .before .before .before in
     let a = s .args in
     let from = c .before .before .sources in (
       from .ensures .fits (a .s .now) (a .out .now) (s .pre .1) (λ z. (s .pre .8 z .0, s .pre .8 z .1)),
@@ -26,7 +29,7 @@ same-length c = search needs
 
 returns : tie.Need-returns
 returns c =
-    let s = c .before .before .before .before .before .before .before .before .before in
+    let s = c .before .before .before .before .before .before .before .before .before .before .before in
     let a = s .args in
     let from = c .before .before .before .before .before .sources in (
       from .ensures .fits (a .s .now) (a .out .now) (s .pre .1) (λ z. (s .pre .8 z .0, s .pre .8 z .1)) .long,
@@ -34,4 +37,4 @@ returns c =
     )
 
 pub own-spec : {M : Type 1} → statement M
-own-spec = tie.close (tie.spec sources-requires sum-symbol-requires same-length returns)
+own-spec = tie.close (tie.spec places-requires sources-requires sum-symbol-requires same-length returns)

@@ -4,7 +4,6 @@ use mathlib.Core.Logic.{⊎-elim}
 use Prim.Native.Nat.{_+_, _-_, _*_}
 use native.Mathlib.Omega.{arith}
 use borrow.Author.Needs.{needs}
-use Rattle.chain.specs.Places.{Laid}
 use Rattle.solving.proofs.SourcesLaws.{Taken, taken-parity, taken-at, sourced-top, sourced-next, next-small}
 use Rattle.solving.proofs.sources.sources.Statement.{statement}
 use Rattle.solving.proofs.sources.sources.Tie as tie
@@ -14,12 +13,6 @@ mul-last c = search needs
 
 sub-last : tie.Need-sub-last
 sub-last c = search needs
-
-walk-requires : tie.Need-walk-requires
-walk-requires c κs = search needs
-
-places-requires : tie.Need-places-requires
-places-requires c κs = search needs
 
 add-list : tie.Need-add-list
 add-list c = search needs
@@ -69,74 +62,70 @@ mul-list-6 c = search needs
 element-write-list-2 : tie.Need-element-write-list-2
 element-write-list-2 c = search needs
 
-mul-t26 : tie.Need-mul-t26
-mul-t26 c = search needs
+mul-t23 : tie.Need-mul-t23
+mul-t23 c = search needs
 
-element-copy-out-t30 : tie.Need-element-copy-out-t30
-element-copy-out-t30 c = search needs
-
-laid : (c : tie.After-places) → Laid (c .before .before .before .before .args .sh) (c .before .before .before .before .args .p) (c .places .last .0)
-laid c = rw (c .before .walk .ensures .1) at (c .places .ensures)
+element-copy-out-t27 : tie.Need-element-copy-out-t27
+element-copy-out-t27 c = search needs
 
 -- the lost symbol is taken out
-taken : (c : tie.Joined1) → let s = c .before .before .before .before .before in
-    Taken (s .args .sh) (s .args .p) (s .args .side) (s .args .d) (c .before .places .last .0) (c .if1 .list)
+taken : (c : tie.Joined1) → let s = c .before .before in Taken (s .args .sh) (s .args .p) (s .args .side) (s .args .d) (s .args .list .now) (c .if1 .list)
 taken c =
-    let s = c .before .before .before .before .before in
+    let s = c .before .before in
     let a = s .args in
-    let l = laid (c .before) in
+    let l = s .pre .7 in
     ⊎-elim
-    (λ z. rw (z .2) (taken-at (a .sh) (s .pre .0) (a .p) (s .pre .1) (a .side) (s .pre .2) (c .before .places .last .0) l (a .d) (omega (arith, z .0 .taken)) (s .pre .3) _ (omega (arith, s .pre .0 .m-fits .0))))
-    (λ z. let e : a .d ≡ 0 = omega (arith, z .0 .left) in rw (z .1, e) (taken-parity (a .sh) (s .pre .0) (a .p) (s .pre .1) (a .side) (s .pre .2) (c .before .places .last .0) l))
+    (λ z. rw (z .2) (taken-at (a .sh) (s .pre .0) (a .p) (s .pre .1) (a .side) (s .pre .2) (a .list .now) l (a .d) (omega (arith, z .0 .taken)) (s .pre .3) _ (omega (arith, s .pre .0 .m-fits .0))))
+    (λ z. let e : a .d ≡ 0 = omega (arith, z .0 .left) in rw (z .1, e) (taken-parity (a .sh) (s .pre .0) (a .p) (s .pre .1) (a .side) (s .pre .2) (a .list .now) l))
     (c .if1 .came)
 
-cast-t34 : tie.Need-cast-t34
-cast-t34 c =
+cast-t31 : tie.Need-cast-t31
+cast-t31 c =
     let j = c .before .before .before .before in
-    let s = j .before .before .before .before .before in
+    let s = j .before .before in
     let a = s .args in
-    omega (arith, next-small (a .sh) (s .pre .0) (a .p) (s .pre .1) (a .side) (s .pre .2) _ (laid (j .before)) (a .d) (a .aside) (a .h) (a .b) (s .pre .4) (s .pre .5) (s .pre .6) (j .if1 .list) (taken j) (omega arith))
+    omega (arith, next-small (a .sh) (s .pre .0) (a .p) (s .pre .1) (a .side) (s .pre .2) _ (s .pre .7) (a .d) (a .aside) (a .h) (a .b) (s .pre .4) (s .pre .5) (s .pre .6) (j .if1 .list) (taken j) (omega arith))
 
 returns : tie.Need-returns
 returns c =
     let j = c .before .before .before .before in
-    let s = j .before .before .before .before .before in
+    let s = j .before .before in
     let a = s .args in
-    sourced-next (a .sh) (s .pre .0) (a .p) (s .pre .1) (a .side) (s .pre .2) _ (laid (j .before)) (a .d) (a .aside) (a .h) (a .b) (s .pre .4) (s .pre .5) (s .pre .6) (j .if1 .list) (taken j) (omega arith)
+    sourced-next (a .sh) (s .pre .0) (a .p) (s .pre .1) (a .side) (s .pre .2) _ (s .pre .7) (a .d) (a .aside) (a .h) (a .b) (s .pre .4) (s .pre .5) (s .pre .6) (j .if1 .list) (taken j) (omega arith)
 
 mul-t10 : tie.Need-mul-t10
 mul-t10 c = search needs
 
-element-copy-out-t41 : tie.Need-element-copy-out-t41
-element-copy-out-t41 c = search needs
+element-copy-out-t38 : tie.Need-element-copy-out-t38
+element-copy-out-t38 c = search needs
 
-cast-t42 : tie.Need-cast-t42
-cast-t42 c =
+cast-t39 : tie.Need-cast-t39
+cast-t39 c =
     let j = c .before .before .before in
-    let s = j .before .before .before .before .before in
+    let s = j .before .before in
     omega (arith, taken j .ends (2 * s .args .sh .m - 4) (omega (arith, s .pre .0 .m-fits .0)), s .pre .0 .all-fits)
 
-add-t43 : tie.Need-add-t43
-add-t43 c = search needs
+add-t40 : tie.Need-add-t40
+add-t40 c = search needs
 
-mul-t44 : tie.Need-mul-t44
-mul-t44 c = search needs
+mul-t41 : tie.Need-mul-t41
+mul-t41 c = search needs
 
-element-copy-out-t47 : tie.Need-element-copy-out-t47
-element-copy-out-t47 c = search needs
+element-copy-out-t44 : tie.Need-element-copy-out-t44
+element-copy-out-t44 c = search needs
 
-cast-t48 : tie.Need-cast-t48
-cast-t48 c =
+cast-t45 : tie.Need-cast-t45
+cast-t45 c =
     let j = c .before .before .before .before in
-    let s = j .before .before .before .before .before in
+    let s = j .before .before in
     omega (arith, taken j .ends (2 * s .args .sh .m - 4 + 1) (omega (arith, s .pre .0 .m-fits .0)), s .pre .0 .all-fits)
 
 returns-2 : tie.Need-returns-2
 returns-2 c =
     let j = c .before .before .before .before in
-    let s = j .before .before .before .before .before in
+    let s = j .before .before in
     let a = s .args in
-    sourced-top (a .sh) (s .pre .0) (a .p) (s .pre .1) (a .side) (s .pre .2) _ (laid (j .before)) (a .d) (a .aside) (a .h) (a .b) (s .pre .4) (s .pre .5) (s .pre .6) (j .if1 .list) (taken j) (omega arith)
+    sourced-top (a .sh) (s .pre .0) (a .p) (s .pre .1) (a .side) (s .pre .2) _ (s .pre .7) (a .d) (a .aside) (a .h) (a .b) (s .pre .4) (s .pre .5) (s .pre .6) (j .if1 .list) (taken j) (omega arith)
 
 pub sources-spec : {M : Type 1} → statement M
 sources-spec =
@@ -144,8 +133,6 @@ sources-spec =
     (tie.spec
     mul-last
     sub-last
-    walk-requires
-    places-requires
     add-list
     mul-list
     element-copy-out-list
@@ -162,15 +149,15 @@ sources-spec =
     sub-list-4
     mul-list-6
     element-write-list-2
-    mul-t26
-    element-copy-out-t30
-    cast-t34
+    mul-t23
+    element-copy-out-t27
+    cast-t31
     returns
     mul-t10
-    element-copy-out-t41
-    cast-t42
-    add-t43
-    mul-t44
-    element-copy-out-t47
-    cast-t48
+    element-copy-out-t38
+    cast-t39
+    add-t40
+    mul-t41
+    element-copy-out-t44
+    cast-t45
     returns-2)
