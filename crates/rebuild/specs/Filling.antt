@@ -1,5 +1,6 @@
 -- FILLING (document 01, "Column read"): a lost column solved in the room of one column. Definitions only.
 use mathlib.Core.Path.{_≡_}
+use mathlib.Core.Logic.{_≢_}
 use mathlib.Core.List.{List}
 use Prim.Native.Nat.{ℕ, _-_, _*_, _%_, _≤_, _<_}
 use lib.ListN.{length, getD}
@@ -7,6 +8,11 @@ use Rattle.shape.specs.Good.{Good, size}
 use Rattle.shape.specs.Place.{column-length, byte}
 use Rattle.solving.specs.declared.Gone.{Gone}
 use Rattle.solving.specs.Outer.{column-of, base-of}
+
+-- r is the side of the column wanted, and 2 where it is neither's
+pub record SideOf (x : Gone) (wanted r : ℕ) : Type 0 where
+  pub lost : r < 2 → wanted ≡ column-of x r
+  pub neither : 2 ≤ r → (wanted ≢ x .first) × (wanted ≢ x .second)
 
 -- the lost columns x with a side's column at the start of the buffer, and the other's as many symbols behind it as the walk is long
 abbrev pub narrowed : Gone → ℕ → Gone

@@ -5,7 +5,7 @@ ghost use lib.ListN.{length};
 ghost use Rattle.shape.specs.Answers.{number, First};
 ghost use Rattle.solving.specs.Outer.{Solved, Stores, Ready};
 ghost use Rattle.rebuild.specs.Fill.{fill-table, Fill};
-ghost use Rattle.rebuild.specs.Filling.{narrowed, Fillable, ColumnIn};
+ghost use Rattle.rebuild.specs.Filling.{SideOf, narrowed, Fillable, ColumnIn};
 use crate::reading::read;
 use crate::refusing::beyond;
 use crate::refusing::twice;
@@ -44,6 +44,19 @@ pub(crate) fn fill_refusal(
         return Answer::BadBuffer;
     }
     Answer::Done
+}
+
+// The side of the column that is wanted; 2 if it survives.
+fn side_of(x: Gone, wanted: usize) -> usize
+    ensures { λ r. ⌜ SideOf x wanted r ⌝ }
+{
+    if wanted == x.first {
+        return 0;
+    }
+    if wanted == x.second {
+        return 1;
+    }
+    2
 }
 
 // The same lost columns in one column's room, a side's column at its start: a symbol that is asked for stands where the one that asks for it will.
@@ -97,12 +110,9 @@ pub fn fill(shape: Shape, stripe: &[u8], lost: Losses, wanted: usize, answer: &m
         refused => return refused,
     }
     let x = read(shape, lost);
-    if wanted == x.first {
-        fill_column(stripe, answer, narrow(x, 0), 0);
-        return Answer::Done;
-    }
-    if wanted == x.second {
-        fill_column(stripe, answer, narrow(x, 1), 1);
+    let side = side_of(x, wanted);
+    if side < 2 {
+        fill_column(stripe, answer, narrow(x, side), side);
     }
     Answer::Done
 }

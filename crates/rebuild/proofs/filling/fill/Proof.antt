@@ -5,7 +5,6 @@ use borrow.Author.Needs.{needs}
 use lib.ListN.{length}
 use Rattle.shape.specs.Answers.{number, First}
 use Rattle.shape.proofs.Asked.{not-done}
-use Rattle.solving.specs.Outer.{column-of}
 use Rattle.rebuild.specs.Reading.{Read}
 use Rattle.rebuild.specs.Fill.{fill-table}
 use Rattle.rebuild.proofs.FillLaws.{Fill-good, fill-done, fill-passed}
@@ -37,6 +36,9 @@ here : (c : tie.After-read)
     Read (x .shape) (a .lost) x × Fill-good (x .shape) (a .stripe .now) (a .lost) (a .wanted) (length (a .answer .now))
 here c = let e = c .read .ensures in (read-here _ _ _ e, read-good _ _ _ e _ _ _ (fill-done _ _ _ _ _ (passed (c .before))))
 
+side-of-requires : tie.Need-side-of-requires
+side-of-requires c κs = search needs
+
 narrow-requires : tie.Need-narrow-requires
 narrow-requires c κs =
     let (rd, o) = here (c .before .before .before) in
@@ -44,16 +46,15 @@ narrow-requires c κs =
     (omega arith, z .0, z .1)
 
 fill-column-requires : tie.Need-fill-column-requires
-unfolding column-of
 fill-column-requires c κs =
     let (rd, o) = here (c .before .before .before .before) in
-    read-fillable _ _ rd _ _ _ o 0 (omega arith) (c .before .before .if1 .taken) _ (c .narrow .ensures)
+    read-fillable _ _ rd _ _ _ o _ (omega arith) (c .before .before .before .side-of .ensures .lost (c .before .before .if1 .taken)) _ (c .narrow .ensures)
 
 same-length : tie.Need-same-length
 same-length c = search needs
 
 returns-2 : tie.Need-returns-2
-unfolding column-of number
+unfolding number
 returns-2 c =
     let r = c .before .before .before .before .before .before .before in
     let (rd, o) = here r in
@@ -62,45 +63,18 @@ returns-2 c =
       refused = λ z. absurd (z refl);
       done = λ z.
           read-fills _ _ _ (r .read .ensures) _ _ _ _
-          (read-filled _ _ rd _ _ _ o 0 (omega arith) (c .before .before .before .before .before .if1 .taken) _ (c .before .before .before .narrow .ensures) _ (f .0) (f .1));
+          (read-filled _ _ rd _ _ _ o _ (omega arith) (c .before .before .before .before .before .before .side-of .ensures .lost (c .before .before .before .before .before .if1 .taken)) _ (c .before .before .before .narrow .ensures) _ (f .0) (f .1));
     }
-
-narrow-requires-2 : tie.Need-narrow-requires-2
-narrow-requires-2 c κs =
-    let (rd, o) = here (c .before .before .before .before .before) in
-    let z = read-small _ _ rd _ _ _ o in
-    (omega arith, z .0, z .1)
-
-fill-column-requires-2 : tie.Need-fill-column-requires-2
-unfolding column-of
-fill-column-requires-2 c κs =
-    let (rd, o) = here (c .before .before .before .before .before .before) in
-    read-fillable _ _ rd _ _ _ o 1 (omega arith) (c .before .before .if2 .taken) _ (c .narrow2 .ensures)
-
-same-length-2 : tie.Need-same-length-2
-same-length-2 c = search needs
 
 returns-3 : tie.Need-returns-3
-unfolding column-of number
-returns-3 c =
-    let r = c .before .before .before .before .before .before .before .before .before in
-    let (rd, o) = here r in
-    let f = c .before .before .fill-column2 .ensures in record {
-      answer = passed (r .before);
-      refused = λ z. absurd (z refl);
-      done = λ z.
-          read-fills _ _ _ (r .read .ensures) _ _ _ _
-          (read-filled _ _ rd _ _ _ o 1 (omega arith) (c .before .before .before .before .before .if2 .taken) _ (c .before .before .before .narrow2 .ensures) _ (f .0) (f .1));
-    }
-
-returns-4 : tie.Need-returns-4
 unfolding number
-returns-4 c =
-    let r = c .before .before .before .before in
-    let (rd, o) = here r in record {
+returns-3 c =
+    let r = c .before .before in
+    let (rd, o) = here r in
+    let n = c .before .side-of .ensures .neither (omega arith) in record {
       answer = passed (r .before);
       refused = λ z. absurd (z refl);
-      done = λ z. read-fills _ _ _ (r .read .ensures) _ _ _ _ (read-survives _ _ rd _ _ _ o (c .before .before .if1 .left) (c .if2 .left));
+      done = λ z. read-fills _ _ _ (r .read .ensures) _ _ _ _ (read-survives _ _ rd _ _ _ o (n .0) (n .1));
     }
 
 pub fill-spec : {M : Type 1} → statement M
@@ -111,12 +85,9 @@ fill-spec =
     enum-told
     returns
     read-requires
+    side-of-requires
     narrow-requires
     fill-column-requires
     same-length
     returns-2
-    narrow-requires-2
-    fill-column-requires-2
-    same-length-2
-    returns-3
-    returns-4)
+    returns-3)
