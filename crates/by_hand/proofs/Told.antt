@@ -1,11 +1,14 @@
 -- What each call has to answer here: it has one outcome, and the case on the list is it.
 use mathlib.Core.Path.{_≡_, refl, ap, subst}
 use mathlib.Core.List.{List, [], _∷_}
-use Prim.Native.Nat.{ℕ}
+use Prim.Native.Nat.{ℕ, _*_, _≤_}
+use lib.ListN.{replicate}
 use Rattle.shape.specs.declared.Shape.{Shape}
 use Rattle.shape.specs.declared.Answer.{Answer}
 use Rattle.shape.specs.declared.Answer.the-variants.{Done}
+use Rattle.shape.specs.Place.{column-length}
 use Rattle.shape.specs.Answers.{number}
+use Rattle.rule.specs.declared.Losses.{Losses}
 use Rattle.checking.specs.declared.Checked.{Checked}
 use Rattle.locating.specs.declared.Located.{Located}
 use Rattle.locating.specs.declared.Damage.{Damage}
@@ -14,11 +17,13 @@ use Rattle.checking.specs.Check.{Check}
 use Rattle.locating.specs.Locate.{Locate}
 use Rattle.stripe.specs.Write.{SmallWrite}
 use Rattle.stripe.specs.Store.{RawStore}
+use Rattle.rebuild.specs.Rebuild.{Rebuild}
 use Rattle.encoding.proofs.EncodeLaws.{encode-one}
 use Rattle.checking.proofs.CheckLaws.{check-one}
 use Rattle.locating.proofs.LocateLaws.{locate-one}
 use Rattle.stripe.proofs.WriteLaws.{write-one}
 use Rattle.stripe.proofs.StoreLaws.{store-one}
+use Rattle.rebuild.proofs.RebuildLaws.{rebuild-one}
 use Rattle.demands.specs.Cases.{Case, Holds, woven, five, sh₅, information, parity, stripe₅}
 use Rattle.demands.proofs.Five.{p5}
 
@@ -39,6 +44,12 @@ unfolding woven information parity stripe₅
 encode-told sh a x e h =
     let one = encode-one sh₅ raw a Done x stripe₅ (at₅ (λ k z. Encode k z a x) sh raw raw e refl h) (p5 238 238 238 238 238) in
     (zero a (one .0), one .1)
+
+pub rebuild-told : (sh : Shape) (s z : List ℕ) (lost : Losses) (room : ℕ) (left : List ℕ) (a : Answer) (x u : List ℕ) → sh ≡ sh₅ → s ≡ z → 2 * column-length sh₅ ≤ room
+    → Holds (Case.rebuilds sh₅ lost z left) → Rebuild sh lost s room a x u → (number a ≡ 0) × (x ≡ left) × (u ≡ replicate room 0)
+rebuild-told sh s z lost room left a x u e i enough p h =
+    let one = rebuild-one sh₅ lost z room a Done x left u (replicate room 0) (at₅ (λ k y. Rebuild k lost y room a x u) sh s z e i h) (p room enough) in
+    (zero a (one .0), one .1, one .2)
 
 pub write-told : (sh : Shape) (s z : List ℕ) (c r : ℕ) (new left : List ℕ) (a : Answer) (x : List ℕ) → sh ≡ sh₅ → s ≡ z → Holds (Case.small-writes sh₅ z c r new left)
     → SmallWrite sh s c r new a x → (number a ≡ 0) × (x ≡ left)

@@ -1,4 +1,4 @@
-// The small stripes by hand, P5, P8, P9 and P10 of the rules, through the public calls.
+// The small stripes by hand, P5 to P10 of the rules, through the public calls.
 // Each check follows from the contracts: it is proved, and the run shows what a person would work out on paper.
 ghost use mathlib.Core.Path.{_≡_};
 ghost use Rattle.locating.specs.declared.Damage.the-variants.{Column, Several};
@@ -7,6 +7,7 @@ ghost use Rattle.demands.specs.Cases.{stripe₅, cleared-0, flipped-0-1, sh₅}
 use check::expect;
 use check::same;
 use locating::Damage;
+use rule::Losses;
 use shape::Shape;
 
 // (2, 5), with symbols of one byte.
@@ -41,6 +42,28 @@ fn encoded() -> [u8; 10]
     let answer = encoding::encode(five(), &mut stripe);
     expect(answer.number() == 0);
     stripe
+}
+
+// P6: columns 0 and 2 of the stripe of P5 are lost, and come back; the workspace is all zero after it.
+fn two_apart() {
+    let mut stripe = [238u8, 238, 2, 5, 238, 238, 8, 20, 16, 9];
+    let mut work = [170u8, 170, 170, 170];
+    let answer = rebuild::rebuild(five(), Losses::Two(0, 2), &mut stripe, &mut work);
+    expect(answer.number() == 0);
+    expect(same(&stripe, &[0x01, 0x12, 2, 5, 0x04, 0x0a, 8, 20, 16, 9]));
+    expect(same(&work, &[0, 0, 0, 0]));
+    show(b"P6  columns 0 and 2 have come back:", &stripe);
+}
+
+// P7: columns 4 and 0 are lost, neighbours around the edge.
+fn around_the_edge() {
+    let mut stripe = [238u8, 238, 2, 5, 4, 10, 8, 20, 238, 238];
+    let mut work = [170u8, 170, 170, 170];
+    let answer = rebuild::rebuild(five(), Losses::Two(4, 0), &mut stripe, &mut work);
+    expect(answer.number() == 0);
+    expect(same(&stripe, &[0x01, 0x12, 2, 5, 4, 10, 8, 20, 0x10, 0x09]));
+    expect(same(&work, &[0, 0, 0, 0]));
+    show(b"P7  columns 4 and 0 have come back:", &stripe);
 }
 
 // P8: a small write of FF to column 4.
@@ -127,6 +150,8 @@ fn main() {
     let stripe = encoded();
     expect(same(&stripe, &[1, 18, 2, 5, 4, 10, 8, 20, 16, 9]));
     show(b"P5  encoded:", &stripe);
+    two_apart();
+    around_the_edge();
     written();
     one_column();
     two_columns();

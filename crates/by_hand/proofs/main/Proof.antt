@@ -29,6 +29,12 @@ slice-aggregate-show-2 c = search needs
 show-requires : tie.Need-show-requires
 show-requires c κs = search needs
 
+two-apart-requires : tie.Need-two-apart-requires
+two-apart-requires c κs = search needs
+
+around-the-edge-requires : tie.Need-around-the-edge-requires
+around-the-edge-requires c κs = search needs
+
 written-requires : tie.Need-written-requires
 written-requires c κs = search needs
 
@@ -53,6 +59,8 @@ main-spec =
     slice-aggregate-show
     slice-aggregate-show-2
     show-requires
+    two-apart-requires
+    around-the-edge-requires
     written-requires
     one-column-requires
     two-columns-requires

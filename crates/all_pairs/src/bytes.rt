@@ -1,0 +1,35 @@
+// Bytes to work on, and what is asked of them.
+
+// Fills s with bytes that go on from the seed, each its own way.
+pub(crate) fn pattern(s: &mut [u8], seed: usize) {
+    let mut x = seed % 65536;
+    let mut i = 0;
+    while i < s.len() {
+        x = (x * 25173 + 13849) % 65536;
+        s[i] = (x / 256 % 256) as u8;
+        i += 1;
+    }
+}
+
+// A number that depends on every byte and on their order.
+pub(crate) fn sum(s: &[u8]) -> u64 {
+    let mut sum = 0;
+    let mut i = 0;
+    while i < s.len() {
+        sum = (sum * 31 + s[i] as u64) % 65521;
+        i += 1;
+    }
+    sum
+}
+
+// Whether every byte is 0.
+pub(crate) fn all_zero(s: &[u8]) -> bool {
+    let mut i = 0;
+    while i < s.len() {
+        if s[i] != 0 {
+            return false;
+        }
+        i += 1;
+    }
+    true
+}
