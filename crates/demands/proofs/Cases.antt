@@ -23,6 +23,7 @@ use Rattle.checking.specs.Check.{some, count, breaks, broken-chains, differing-
 use Rattle.demands.specs.Cases.{Case, Holds, xor-at, chains-with, cases, Cases-hold}
 use Rattle.demands.proofs.Five.{p5, p6, p7, p8, store₉, store₁₀, counted, counts₅, find₉, find₁₀}
 use Rattle.demands.proofs.Read.{fills₅, chooses₅, hands-out₅}
+use Rattle.demands.proofs.Session.{session-prints, refusals-print}
 
 -- ---- P1 to P4, P11: chains, shapes, prices
 
@@ -131,7 +132,7 @@ cases-hold = (
                                                 counts₅ .2,
                                                 (
                                                   count₂,
-                                                  (fills₅ .0, (fills₅ .1, (fills₅ .2, (chooses₅ .0, (chooses₅ .1, (chooses₅ .2, (hands-out₅ .0, (hands-out₅ .1, (stocks .0, (stocks .1, tt)))))))))),
+                                                  (fills₅ .0, (fills₅ .1, (fills₅ .2, (chooses₅ .0, (chooses₅ .1, (chooses₅ .2, (hands-out₅ .0, (hands-out₅ .1, (stocks .0, (stocks .1, (session-prints, (refusals-print .0, (refusals-print .1, (refusals-print .2, (refusals-print .3, (refusals-print .4, tt)))))))))))))))),
                                                 ),
                                               ),
                                             ),

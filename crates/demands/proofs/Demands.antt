@@ -1,7 +1,8 @@
 -- The demands on a rebuild and on locate: the laws of their floors.
-use mathlib.Core.Path.{_≡_, sym, _∙_, subst}
+use mathlib.Core.Path.{_≡_, sym, _∙_}
 use mathlib.Core.Logic.{inl, inr, ⊎-elim}
 use Prim.Native.Nat.{ℕ}
+use lib.ListN.{length}
 use native.Mathlib.Omega.{arith}
 use Rattle.shape.specs.declared.Answer.the-variants.{Done, Disagree}
 use Rattle.shape.proofs.AnswersLaws.{number-done}
@@ -9,13 +10,18 @@ use Rattle.shape.proofs.GoodLaws.{good-m, good-room}
 use Rattle.rule.proofs.SolvesLaws.{solves-one}
 use Rattle.locating.proofs.Explains.{explains-is-mends}
 use Rattle.locating.proofs.LocateLaws.{mends-one}
+use Rattle.rebuild.specs.Rebuild.{Cleared}
 use Rattle.rebuild.proofs.RebuildLaws.{rebuild-otherwise, rebuild-decides, rebuild-solves, rebuild-old-bytes, rebuild-either}
-use Rattle.demands.specs.Sequences.{Request, Served}
-use Rattle.demands.specs.Demands.{Zero-after, Comes-back, Rebuild-exactly, One-stripe, Either-order, One-explains, One-damaged-column, Old-bytes}
+use Rattle.demands.specs.Sequences.{Request, rebuild, job, Served}
+use Rattle.demands.specs.Demands.{Lends, Zero-after, Comes-back, Rebuild-exactly, One-stripe, Either-order, One-explains, One-damaged-column, Old-bytes}
 
 pub zero-after : Zero-after
-zero-after before e sh lost s p h =
-    subst (λ (q : Request). Served q (before .own (e .client)) (before .work) (e .reply) (e .after .own (e .client)) (e .after .work)) p (h .served) .2 .cleared
+zero-after before e lent h = at (e .request) lent (h .served)
+  where
+    at : (q : Request) → Lends q → Served q (before .own (e .client)) (before .work) (e .reply) (e .after .own (e .client)) (e .after .work)
+        → Cleared (length (before .work)) (e .after .work)
+    at (rebuild sh lost s) lent p = p .2 .cleared
+    at (job i from s) lent p = p .2 .cleared
 
 pub comes-back : Comes-back
 comes-back sh lost s hurt room good long bytes obeys agrees a x u h =

@@ -19,7 +19,7 @@ use Rattle.shape.specs.Answers.{number}
 use Rattle.shape.proofs.GoodLaws.{good-m, good-room, stripe-done, stripe-pass}
 use Rattle.rule.specs.declared.Losses.{Losses}
 use Rattle.rule.specs.declared.Losses.the-variants.{One, Two}
-use Rattle.rule.specs.Rule.{others, chain, differs}
+use Rattle.rule.specs.Rule.{others, chain, differs, Obeys}
 use Rattle.rule.specs.Losses.{Beyond, Twice, Bytes, Solves}
 use Rattle.rule.specs.Outer.{walk, first}
 use Rattle.locating.specs.declared.Damage.{Damage}
@@ -56,17 +56,26 @@ p5 a b c d e = record {
 
 -- ---- P6, P7: lost columns come back
 
-module _ (lost : Losses) (lent : List ℕ) (len : length lent ≡ size sh₅) (fit : ¬ Beyond 5 lost) (apart : ¬ Twice lost)
-    (test : same-test sh₅ (λ d c. lost-test lost c) stripe₅ lent ≡ true) where
-  pub solves₅ : Solves sh₅ lost lent stripe₅
-  unfolding woven information parity stripe₅ size place slot row byte left right chain differs others xors _⊕_ all obeys-test
-  solves₅ = record { long = sym len; bytes = bytes-by stripe₅ refl; obeys = obeys-by sh₅ stripe₅ refl; agrees = agrees-by sh₅ lost lent stripe₅ test }
+-- a stripe of bytes that obeys the rule
+pub record Sound₅ (x : List ℕ) : Type 0 where
+  pub long : length x ≡ size sh₅
+  pub bytes : Bytes x
+  pub obeys : Obeys sh₅ x
 
-  comes-back : Holds (Case.rebuilds sh₅ lost lent stripe₅)
+pub sound₅ : Sound₅ stripe₅
+unfolding woven information parity stripe₅ size place slot row byte left right chain differs others xors _⊕_ all obeys-test
+sound₅ = record { long = refl; bytes = bytes-by stripe₅ refl; obeys = obeys-by sh₅ stripe₅ refl }
+
+module _ (lost : Losses) (lent x : List ℕ) (sound : Sound₅ x) (len : length lent ≡ size sh₅) (fit : ¬ Beyond 5 lost) (apart : ¬ Twice lost)
+    (test : same-test sh₅ (λ d c. lost-test lost c) x lent ≡ true) where
+  pub solves₅ : Solves sh₅ lost lent x
+  solves₅ = record { long = sound .long ∙ sym len; bytes = sound .bytes; obeys = sound .obeys; agrees = agrees-by sh₅ lost lent x test }
+
+  pub comes-back : Holds (Case.rebuilds sh₅ lost lent x)
   unfolding number
   comes-back room enough = record {
     outcome = record {
-      answer = rebuild-accepted sh₅ lost lent room (record { shape = good₅; stripe = len; workspace = omega arith; columns = fit; apart = apart }) stripe₅ solves₅;
+      answer = rebuild-accepted sh₅ lost lent room (record { shape = good₅; stripe = len; workspace = omega arith; columns = fit; apart = apart }) x solves₅;
       refused = λ ne. absurd (ne refl);
       done = λ e. solves₅;
     };
@@ -75,58 +84,59 @@ module _ (lost : Losses) (lent : List ℕ) (len : length lent ≡ size sh₅) (f
 
 pub p6 : Holds (Case.rebuilds sh₅ (Two 0 2) lost-0-2 stripe₅)
 unfolding woven information parity stripe₅ lost-0-2 size place slot row byte all same-test lost-test
-p6 = comes-back (Two 0 2) lost-0-2 refl (neither (λ h. omega arith) (λ h. omega arith)) (λ z. omega arith) refl
+p6 = comes-back (Two 0 2) lost-0-2 stripe₅ sound₅ refl (neither (λ h. omega arith) (λ h. omega arith)) (λ z. omega arith) refl
 
 pub p7 : Holds (Case.is-first 5 4 0 4) × Holds (Case.is-first 5 0 4 4) × Holds (Case.rebuilds sh₅ (Two 4 0) lost-4-0 stripe₅)
 unfolding woven information parity stripe₅ lost-4-0 size place slot row byte all same-test lost-test first walk
-p7 = (refl, refl, comes-back (Two 4 0) lost-4-0 refl (neither (λ h. omega arith) (λ h. omega arith)) (λ z. omega arith) refl)
+p7 = (refl, refl, comes-back (Two 4 0) lost-4-0 stripe₅ sound₅ refl (neither (λ h. omega arith) (λ h. omega arith)) (λ z. omega arith) refl)
 
--- ---- P8 to P10: one byte v put into row 0 of column c
+-- ---- P8 to P10: one byte v put into row r of column c
 
-module _ (lent left : List ℕ) (c v : ℕ) (hc : c < 5) (len : length lent ≡ size sh₅) (long : length left ≡ length lent) (put : byte sh₅ left 0 1 c ≡ v) where
-  one-byte : (t : ℕ) → t < 1 → byte sh₅ left t (height sh₅ 0) c ≡ getD (v ∷ []) t 0
-  unfolding height
+module _ (lent left : List ℕ) (c r v : ℕ) (hc : c < 5) (len : length lent ≡ size sh₅) (long : length left ≡ length lent)
+    (put : byte sh₅ left 0 (height sh₅ r) c ≡ v) where
+  one-byte : (t : ℕ) → t < 1 → byte sh₅ left t (height sh₅ r) c ≡ getD (v ∷ []) t 0
   one-byte zero h = put
   one-byte (suc t) h = absurd (omega arith)
 
-  stores : same-test sh₅ (struck-test 1 c) left lent ≡ true → Holds (Case.raw-stores sh₅ lent c 0 (v ∷ []) left)
-  unfolding number store-table height
-  stores test = record {
+  pub stores : r < 2 → same-test sh₅ (struck-test (height sh₅ r) c) left lent ≡ true → Holds (Case.raw-stores sh₅ lent c r (v ∷ []) left)
+  unfolding number store-table
+  stores hr test = record {
     answer = stripe-pass sh₅ lent _ 0 good₅ len (inr (neither (λ z. omega arith) (λ z. omega arith), inr ((λ ne. ne refl), refl)));
     refused = λ ne. absurd (ne refl);
     done = λ e. record {
       long = long;
       new = one-byte;
-      rest = λ d j t hd hj ht h. same-by sh₅ (struck-test 1 c) left lent test d j t hd hj ht (struck-not 1 c d j h);
+      rest = λ d j t hd hj ht h. same-by sh₅ (struck-test (height sh₅ r) c) left lent test d j t hd hj ht (struck-not (height sh₅ r) c d j h);
     };
   }
 
-  writes : same-test sh₅ (λ d j. struck-test 1 c d j || eqb d 0) left lent ≡ true
-      → all 5 (λ p. all 1 (λ t. eqb (differs sh₅ left p t) (differs sh₅ lent p t))) ≡ true → Holds (Case.small-writes sh₅ lent c 0 (v ∷ []) left)
-  unfolding number write-table height
-  writes test chains = record {
+  pub writes : r < 1 → same-test sh₅ (λ d j. struck-test (height sh₅ r) c d j || eqb d 0) left lent ≡ true
+      → all 5 (λ p. all 1 (λ t. eqb (differs sh₅ left p t) (differs sh₅ lent p t))) ≡ true → Holds (Case.small-writes sh₅ lent c r (v ∷ []) left)
+  unfolding number write-table
+  writes hr test chains = record {
     answer = stripe-pass sh₅ lent _ 0 good₅ len (inr (neither (λ z. omega arith) (λ z. omega arith), inr ((λ ne. ne refl), refl)));
     refused = λ ne. absurd (ne refl);
     done = λ e. record {
       long = long;
       new = one-byte;
       information = λ d j t lo hd hj ht h.
-          same-by sh₅ (λ d j. struck-test 1 c d j || eqb d 0) left lent test d j t hd hj ht (ap₂ _||_ (struck-not 1 c d j h) (ne-eqb d 0 (omega arith)));
+          same-by sh₅ (λ d j. struck-test (height sh₅ r) c d j || eqb d 0) left lent test d j t hd hj ht
+          (ap₂ _||_ (struck-not (height sh₅ r) c d j h) (ne-eqb d 0 (omega arith)));
       chains = λ p t hp ht. eqb-true _ _ (all-true 1 _ .0 (all-true 5 _ .0 chains p hp) t ht);
     };
   }
 
 pub p8 : Holds (Case.small-writes sh₅ stripe₅ 4 0 (0xFF ∷ []) (woven (five 0x01 0x02 0x04 0x08 0xFF) (five 0xFD 0x05 0x0A 0xFB 0x09)))
-unfolding woven information parity stripe₅ size place slot row byte left right chain others xors _⊕_ all same-test struck-test differs
-p8 = writes stripe₅ (woven (five 0x01 0x02 0x04 0x08 0xFF) (five 0xFD 0x05 0x0A 0xFB 0x09)) 4 0xFF (omega arith) refl refl refl refl refl
+unfolding woven information parity stripe₅ size height place slot row byte left right chain others xors _⊕_ all same-test struck-test differs
+p8 = writes stripe₅ (woven (five 0x01 0x02 0x04 0x08 0xFF) (five 0xFD 0x05 0x0A 0xFB 0x09)) 4 0 0xFF (omega arith) refl refl refl (omega arith) refl refl
 
 pub store₉ : Holds (Case.raw-stores sh₅ stripe₅ 0 0 (0x00 ∷ []) cleared-0)
-unfolding woven information parity stripe₅ cleared-0 size place slot row byte all same-test struck-test
-store₉ = stores stripe₅ cleared-0 0 0 (omega arith) refl refl refl refl
+unfolding woven information parity stripe₅ cleared-0 size height place slot row byte all same-test struck-test
+store₉ = stores stripe₅ cleared-0 0 0 0 (omega arith) refl refl refl (omega arith) refl
 
 pub store₁₀ : Holds (Case.raw-stores sh₅ cleared-0 1 0 (0x03 ∷ []) flipped-0-1)
-unfolding woven parity cleared-0 flipped-0-1 size place slot row byte all same-test struck-test
-store₁₀ = stores cleared-0 flipped-0-1 1 3 (omega arith) refl refl refl refl
+unfolding woven parity cleared-0 flipped-0-1 size height place slot row byte all same-test struck-test
+store₁₀ = stores cleared-0 flipped-0-1 1 0 3 (omega arith) refl refl refl (omega arith) refl
 
 -- ---- counts
 
@@ -154,7 +164,7 @@ unfolding number found woven information parity stripe₅ cleared-0 size place s
 find₉ = record {
   answer = stripe-done sh₅ cleared-0 .0 (good₅, refl);
   refused = λ ne. absurd (ne refl);
-  done = λ e. inr (inl (refl, disobeys-by sh₅ cleared-0 refl, (omega arith, stripe₅, solves₅ (One 0) cleared-0 refl (λ z. omega arith) (λ z. z) refl)));
+  done = λ e. inr (inl (refl, disobeys-by sh₅ cleared-0 refl, (omega arith, stripe₅, solves₅ (One 0) cleared-0 stripe₅ sound₅ refl (λ z. omega arith) (λ z. z) refl)));
 }
 
 none-explains : all 5 (λ c. not (explains-test sh₅ flipped-0-1 c)) ≡ true

@@ -7,4 +7,5 @@ pub mod Reading
 pub mod Tests
 pub mod Five
 pub mod Read
+pub mod Session
 pub mod Cases

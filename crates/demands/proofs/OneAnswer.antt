@@ -10,7 +10,8 @@ use Rattle.stripe.proofs.ColumnLaws.{column-one}
 use Rattle.rebuild.proofs.RebuildLaws.{rebuild-one}
 use Rattle.rebuild.proofs.FillLaws.{fill-one}
 use Rattle.rebuild.proofs.ChooseLaws.{choose-one}
-use Rattle.demands.specs.OneAnswer.{One-encode, One-check, One-locate, One-small-write, One-raw-store, One-rebuild, One-column, One-fill, One-choose, One-prices, One-stock}
+use Rattle.job.proofs.StepLaws.{step-one}
+use Rattle.demands.specs.OneAnswer.{One-encode, One-check, One-locate, One-small-write, One-raw-store, One-rebuild, One-column, One-fill, One-choose, One-prices, One-stock, One-step}
 
 pub one-encode : One-encode
 one-encode = encode-one
@@ -44,3 +45,6 @@ one-prices = prices-one
 
 pub one-stock : One-stock
 one-stock = stock-one
+
+pub one-step : One-step
+one-step = step-one

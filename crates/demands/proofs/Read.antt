@@ -21,7 +21,7 @@ use Rattle.stripe.specs.Column.{column-table}
 use Rattle.rebuild.specs.Fill.{fill-table, Filled}
 use Rattle.demands.specs.Cases.{Case, Holds, woven, five, sh₅, information, parity, stripe₅, lost-0-2, flipped-0-1}
 use Rattle.demands.proofs.Tests.{all, left-test, left-by, same-test, lost-test, agrees-by}
-use Rattle.demands.proofs.Five.{good₅, neither, solves₅}
+use Rattle.demands.proofs.Five.{good₅, neither, sound₅, solves₅}
 
 -- ---- tables
 
@@ -62,7 +62,7 @@ fill-0 = record {
   refused = λ ne. absurd (ne refl);
   done = λ e. record {
     gone = λ l. filled₅ lost-0-2 (Two 0 2) 0 _ _ stripe₅
-        (solves-outer sh₅ good₅ (Two 0 2) fit₂ (λ z. omega arith) lost-0-2 stripe₅ (solves₅ (Two 0 2) lost-0-2 refl fit₂ (λ z. omega arith) refl))
+        (solves-outer sh₅ good₅ (Two 0 2) fit₂ (λ z. omega arith) lost-0-2 stripe₅ (solves₅ (Two 0 2) lost-0-2 stripe₅ sound₅ refl fit₂ (λ z. omega arith) refl))
         refl refl refl (tail 0x01 0x12 0xAA 0xBB (0xCC ∷ 0xDD ∷ []));
     survives = λ l. absurd (l (inl refl));
   };

@@ -24,7 +24,8 @@ use Rattle.stripe.proofs.ColumnLaws.{column-rises}
 use Rattle.rebuild.proofs.RebuildLaws.{rebuild-rises}
 use Rattle.rebuild.proofs.FillLaws.{fill-rises, fill-either}
 use Rattle.rebuild.proofs.ChooseLaws
-use Rattle.demands.specs.Reading.{Layout, Two-chains, Different-columns, Tables-rise, First-is-lowest, Good-is-done, None-broken, Explains-is-mends, Two-parities, Stock-good, Walk-ends, Solved-from, One-outer, Some-outer, Fill-is-rebuild, Fill-either-order, Column-read, Choose-empty}
+use Rattle.job.proofs.StepLaws.{step-12, step-11, step-14, step-13, step-shown, step-hidden}
+use Rattle.demands.specs.Reading.{Layout, Two-chains, Different-columns, Tables-rise, First-is-lowest, Good-is-done, None-broken, Explains-is-mends, Two-parities, Stock-good, Walk-ends, Solved-from, One-outer, Some-outer, Fill-is-rebuild, Fill-either-order, Column-read, Choose-empty, Program-order, Line-for-each}
 
 -- ---- layout and chains
 
@@ -109,3 +110,15 @@ column-read = ChooseLaws.column-read
 
 pub choose-empty : Choose-empty
 choose-empty sh s lost c buffer part buffer′ a p q = ChooseLaws.choose-empty sh s lost c buffer part buffer′ a p q
+
+-- ---- the job program
+
+pub program-order : Program-order
+program-order st input s room r s′ w h = (
+  step-12 st input s room r s′ w h,
+  step-11 st input s room r s′ w h,
+  λ framed k e. (step-14 st input s room r s′ w h framed k e, step-13 st input s room r s′ w h framed k e),
+)
+
+pub line-for-each : Line-for-each
+line-for-each st input s room r s′ w h = (step-shown st input s room r s′ w h, step-hidden st input s room r s′ w h)

@@ -1,10 +1,10 @@
--- SMALL STRIPES BY HAND (document 01, P1 to P11): one list of cases, and what it is for a case to hold, said by the definitions of the rule
--- and by the calls' own contracts.
+-- SMALL STRIPES BY HAND (document 01, P1 to P11, and the session of the job program): one list of cases, and what it is for a case to hold,
+-- said by the definitions of the rule and by the calls' own contracts.
 use mathlib.Core.Path.{_≡_}
 use mathlib.Core.Bool.{cond}
 use mathlib.Core.List.{List, [], _∷_}
-use Prim.Native.Nat.{ℕ, zero, suc, _-_, _*_, _≤_}
-use lib.ListN.{replicate}
+use Prim.Native.Nat.{ℕ, zero, suc, _-_, _*_, _≤_, _<_}
+use lib.ListN.{length, drop, replicate}
 use lib.Dec.{eqb}
 use Rattle.xor.specs.Xor.{_⊕_}
 use Rattle.shape.specs.declared.Shape.{Shape}
@@ -30,6 +30,10 @@ use Rattle.stripe.specs.Column.{ColumnRead}
 use Rattle.rebuild.specs.Rebuild.{Rebuild}
 use Rattle.rebuild.specs.Fill.{Fill}
 use Rattle.rebuild.specs.Choose.{Choose}
+use Rattle.job.specs.declared.Held.{Held}
+use Rattle.job.specs.declared.State.{State}
+use Rattle.job.specs.declared.Turn.{Turn}
+use Rattle.job.specs.Step.{Stepped}
 
 pub data Case : Type 0 where
   chain-of : (m n p : ℕ) (symbols : List (ℕ × ℕ)) → Case  -- chain p is these symbols (row, column), its parity among them
@@ -49,6 +53,7 @@ pub data Case : Type 0 where
   hands-out : (sh : Shape) (s : List ℕ) (column : ℕ) (part : List ℕ) → Case
   stocks : (i : ℕ) (answer : Answer) (sh : Shape) → Case
   costs : (m n encode one two reads : ℕ) → Case  -- whatever w is
+  prints : (st : State) (input lent : List ℕ) (lines : List (List ℕ)) → Case  -- the job program from that state on; [] for a record without a line
 
 -- the XOR of the symbols of a grid at these rows and columns
 unfoldable pub xor-at : ℕ → Grid → List (ℕ × ℕ) → ℕ
@@ -72,6 +77,17 @@ five a b c d e = a ∷ b ∷ c ∷ d ∷ e ∷ []
 abbrev pub sh₅ : Shape
 sh₅ = shape 2 5 1
 
+-- the line of a step, if it is printed
+unfoldable pub printed : Turn → List ℕ
+printed r = cond (r .shown) (five (r .line .number) (r .line .kind) (r .line .answer) (r .line .x) (r .line .y)) []
+
+-- the lines of the job program, step by step, as long as there is input left
+abbrev pub Prints : State → List ℕ → List ℕ → ℕ → List (List ℕ) → Type 0
+Prints st input s room [] = length input ≡ 0
+Prints st input s room (line ∷ rest) =
+    (0 < length input) × (r : Turn) × (s′ work′ : List ℕ) × Stepped st input s room r s′ work′ × (printed r ≡ line)
+    × Prints (r .state) (drop (r .taken) input) s′ room rest
+
 abbrev pub Holds : Case → Type 0
 Holds (chain-of m n p symbols) = (X : Grid) → chain m n X p ≡ xor-at m X symbols
 Holds (chains-at m n row column chains) = chains-with m n (mark (m - 1 - row) column) 0 n ≡ chains
@@ -90,6 +106,7 @@ Holds (chooses sh s lost wanted buffer part) = Choose sh s lost wanted buffer pa
 Holds (hands-out sh s column part) = ColumnRead sh s column part
 Holds (stocks i answer sh) = Stock i (record { answer = answer; shape = sh })
 Holds (costs m n encode one two reads) = (w : ℕ) → Good (shape m n w) → Prices (shape m n w) (record { answer = Done; encode = encode; one = one; two = two; reads = reads })
+Holds (prints st input lent lines) = (room : ℕ) → 2 * column-length sh₅ ≤ room → Prints st input lent room lines
 
 unfoldable pub information : List ℕ
 information = five 0x01 0x02 0x04 0x08 0x10
@@ -112,6 +129,39 @@ cleared-0 = woven (five 0x00 0x02 0x04 0x08 0x10) parity
 
 unfoldable pub flipped-0-1 : List ℕ
 flipped-0-1 = woven (five 0x00 0x03 0x04 0x08 0x10) parity
+
+-- the job program at its start, and with (2, 5), w 1 held after this many records
+abbrev pub start : State
+start = record { held = Held.None; records = 0 }
+
+abbrev pub after : ℕ → State
+after k = record { held = Held.Some sh₅; records = k }
+
+unfoldable pub session : List ℕ
+session =
+    0x06 ∷ 0x00 ∷ 0x01 ∷ 0x00 ∷ 0x02 ∷ 0x05 ∷ 0x01 ∷ 0x00
+    ∷ 0x05 ∷ 0x00 ∷ 0x02 ∷ 0x00 ∷ 0x00 ∷ 0x00 ∷ 0xA5
+    ∷ 0x02 ∷ 0x00 ∷ 0x04 ∷ 0x00
+    ∷ 0x05 ∷ 0x00 ∷ 0x03 ∷ 0x00 ∷ 0x01 ∷ 0x01 ∷ 0xA4
+    ∷ 0x02 ∷ 0x00 ∷ 0x04 ∷ 0x00
+    ∷ 0x02 ∷ 0x00 ∷ 0x05 ∷ 0x00
+    ∷ 0x04 ∷ 0x00 ∷ 0x06 ∷ 0x00 ∷ 0x01 ∷ 0x03
+    ∷ 0x05 ∷ 0x00 ∷ 0x06 ∷ 0x00 ∷ 0x02 ∷ 0x01 ∷ 0x00
+    ∷ 0x02 ∷ 0x00 ∷ 0x04 ∷ 0x00
+    ∷ []
+
+unfoldable pub session-lines : List (List ℕ)
+session-lines =
+    five 1 1 0 10 0
+    ∷ five 2 2 0 0 0
+    ∷ five 3 4 0 0 0
+    ∷ five 4 3 0 0 0
+    ∷ five 5 4 0 1 1
+    ∷ five 6 5 0 1 1
+    ∷ five 7 6 9 0 0
+    ∷ five 8 6 0 2 0
+    ∷ five 9 4 0 0 0
+    ∷ []
 
 unfoldable pub cases : List Case
 cases =
@@ -166,6 +216,16 @@ cases =
     -- Stock: the third entry, and a number over 9.
     ∷ stocks 2 Done (shape 3 9 512)
     ∷ stocks 10 NoSuchStock zero-shape
+    -- The job program: the session of document 01, whole.
+    ∷ prints start session stripe₅ session-lines
+    -- A rebuild of three columns before any shape is 14, not 13; a kind that is none is 11; a short shape is 13, before any shape too.
+    ∷ prints start (0x03 ∷ 0x00 ∷ 0x06 ∷ 0x00 ∷ 0x03 ∷ []) stripe₅ (five 1 6 14 0 0 ∷ [])
+    ∷ prints start (0x03 ∷ 0x00 ∷ 0x07 ∷ 0x00 ∷ 0x03 ∷ []) stripe₅ (five 1 7 11 0 0 ∷ [])
+    ∷ prints start (0x03 ∷ 0x00 ∷ 0x01 ∷ 0x00 ∷ 0x02 ∷ []) stripe₅ (five 1 1 13 0 0 ∷ [])
+    -- A client's record is skipped and counts; a stray byte behind it is 12.
+    ∷ prints start (0x02 ∷ 0x00 ∷ 0x00 ∷ 0x80 ∷ 0x02 ∷ []) stripe₅ ([] ∷ five 2 0 12 0 0 ∷ [])
+    -- A refused shape, (2,4), leaves the old one: the check behind it is of (2,5).
+    ∷ prints (after 1) (0x06 ∷ 0x00 ∷ 0x01 ∷ 0x00 ∷ 0x02 ∷ 0x04 ∷ 0x01 ∷ 0x00 ∷ 0x02 ∷ 0x00 ∷ 0x04 ∷ 0x00 ∷ []) stripe₅ (five 2 1 2 0 0 ∷ five 3 4 0 0 0 ∷ [])
     ∷ []
 
 abbrev pub All : List Case → Type 0
@@ -175,3 +235,8 @@ All (c ∷ rest) = Holds c × All rest
 -- every case on the list holds
 abbrev pub Cases-hold : Type 0
 Cases-hold = All cases
+
+-- the job program prints one list of lines for an input
+abbrev pub One-printout : Type 0
+One-printout = (st : State) (input s : List ℕ) (room : ℕ) (lines lines₂ : List (List ℕ)) → Prints st input s room lines → Prints st input s room lines₂
+    → lines ≡ lines₂

@@ -14,7 +14,8 @@ use Rattle.rule.specs.Rule.{Obeys}
 use Rattle.rule.specs.Losses.{Beyond, Twice, Agrees, Bytes, Solves, Disagrees}
 use Rattle.locating.specs.Locate.{Mends, Explains}
 use Rattle.rebuild.specs.Rebuild.{Otherwise-good, Rebuild, Cleared}
-use Rattle.demands.specs.Sequences.{Buffers, Request, rebuild, answered, Served, World, Event, Step, History, final, asked, saw, Only-of}
+use Rattle.job.specs.declared.Turn.{Turn}
+use Rattle.demands.specs.Sequences.{Buffers, Request, encode, check, locate, small-write, raw-store, rebuild, read-column, fill, choose, prices, stock, job, answered, stepped, Served, World, Event, Step, History, final, asked, saw, Only-of}
 
 -- ---- DEMAND 1. "Every call ends and answers for all inputs": that is the language's; which answer: specs/OneAnswer.antt.
 
@@ -23,10 +24,31 @@ abbrev pub Refused-changes-nothing : Type 0
 Refused-changes-nothing = (q : Request) (own own′ : Buffers) (work work′ : List ℕ) (a : Answer) → a ≢ Done → Served q own work (answered a) own′ work′
     → own′ ≡ own
 
+-- The same of a step of the job program, whose answer stands in its line; it goes on by a record. And so: "A refused shape leaves the old one."
+abbrev pub Refused-step : Type 0
+Refused-step = (i from s : ℕ) (own own′ : Buffers) (work work′ : List ℕ) (r : Turn) → r .line .answer ≢ 0
+    → Served (job i from s) own work (stepped r) own′ work′
+    → (own′ .stripes ≡ own .stripes) × (own′ .symbols ≡ own .symbols) × (own′ .answers ≡ own .answers) × (own′ .inputs ≡ own .inputs)
+    × (own′ .state .held ≡ own .state .held)
+
+-- the calls that are lent the workspace
+abbrev pub Lends : Request → Type 0
+Lends (encode sh s) = ⊥
+Lends (check sh s) = ⊥
+Lends (locate sh s) = ⊥
+Lends (small-write sh s c i x) = ⊥
+Lends (raw-store sh s c i x) = ⊥
+Lends (rebuild sh lost s) = Unit {0}
+Lends (read-column sh s c) = ⊥
+Lends (fill sh s lost c b) = ⊥
+Lends (choose sh s lost c b) = ⊥
+Lends (prices sh) = ⊥
+Lends (stock i) = ⊥
+Lends (job i from s) = Unit {0}
+
 -- "A workspace that is lent comes back all zero after every call, refused or not", whatever it held before.
 abbrev pub Zero-after : Type 0
-Zero-after = (before : World) (e : Event) (sh : Shape) (lost : Losses) (s : ℕ) → e .request ≡ rebuild sh lost s → Step before e
-    → Cleared (length (before .work)) (e .after .work)
+Zero-after = (before : World) (e : Event) → Lends (e .request) → Step before e → Cleared (length (before .work)) (e .after .work)
 
 -- ---- DEMAND 2
 

@@ -20,6 +20,9 @@ use Rattle.stripe.specs.Column.{ColumnRead}
 use Rattle.rebuild.specs.Rebuild.{Rebuild}
 use Rattle.rebuild.specs.Fill.{Fill}
 use Rattle.rebuild.specs.Choose.{Choose}
+use Rattle.job.specs.declared.State.{State}
+use Rattle.job.specs.declared.Turn.{Turn}
+use Rattle.job.specs.Step.{Stepped}
 use Rattle.demands.specs.Sequences.{Request, World, Event, Step}
 
 -- one result
@@ -64,6 +67,11 @@ One-prices = (sh : Shape) → One-result {A = Priced} (Prices sh)
 
 abbrev pub One-stock : Type 0
 One-stock = (i : ℕ) → One-result {A = Stocked} (Stock i)
+
+-- a step of the job program; here too nothing says what the workspace held
+abbrev pub One-step : Type 0
+One-step = (st : State) (input s : List ℕ) (room : ℕ) (r q : Turn) (x y u v : List ℕ)
+    → Stepped st input s room r x u → Stepped st input s room q y v → (r ≡ q) × (x ≡ y) × (u ≡ v)
 
 -- ---- SOME ANSWER. No contract asks for what cannot be: every request of every client, in whatever state, can be served.
 -- (With one answer: each contract is met by one outcome exactly, for every input.)

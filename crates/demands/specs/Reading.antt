@@ -1,7 +1,7 @@
 -- THE READING OF THE WORDS: sentences of document 01 that follow from the definitions. Proofs: proofs/, the same names in small letters.
 use mathlib.Core.Path.{_≡_}
 use mathlib.Core.Logic.{_↔_, _≢_, _⊎_}
-use mathlib.Core.Bool.{cond}
+use mathlib.Core.Bool.{true, false, cond}
 use mathlib.Core.List.{List}
 use Prim.Native.Nat.{ℕ, _+_, _*_, _<_, _≤_}
 use lib.ListN.{length, getD}
@@ -28,6 +28,11 @@ use Rattle.stripe.specs.Column.{column-table}
 use Rattle.rebuild.specs.Rebuild.{Rebuild, rebuild-table}
 use Rattle.rebuild.specs.Fill.{Fill, fill-table}
 use Rattle.rebuild.specs.Choose.{Choose}
+use Rattle.job.specs.declared.State.{State}
+use Rattle.job.specs.declared.Turn.{Turn}
+use Rattle.job.specs.Record.{kind-of, payload, Unframed, Clients}
+use Rattle.job.specs.Kinds.{Kind, kind-number, Unknown, Early, Wrong}
+use Rattle.job.specs.Step.{Stepped}
 
 -- ---- layout and chains
 
@@ -129,3 +134,23 @@ Column-read = (sh : Shape) (s : List ℕ) (lost : Losses) (room : ℕ) (x u : Li
 abbrev pub Choose-empty : Type 0
 Choose-empty = (sh : Shape) (s : List ℕ) (lost : Losses) (c : ℕ) (buffer part buffer′ : List ℕ) (a : Answer)
     → Choose sh s lost c buffer part → Fill sh s lost c buffer a buffer′ → (length part ≡ 0) ↔ (a ≢ Done)
+
+-- ---- the job program: st, input and s are as in Stepped, r what the step comes to
+
+abbrev pub Of-steps : (State → List ℕ → Turn → Type 0) → Type 0
+Of-steps P = (st : State) (input s : List ℕ) (room : ℕ) (r : Turn) (s′ work′ : List ℕ) → Stepped st input s room r s′ work′ → P st input r
+
+-- "Program refusals come before the others, in this order: 12, .. (kind printed as 0, program stops); 11, ..; 14, ..; 13, ..": each is given wherever
+-- it applies and none before it does, whatever those behind it say.
+abbrev pub Program-order : Type 0
+Program-order = Of-steps (λ st input r.
+    (0 < length input → Unframed input → (r .line .answer ≡ 12) × (r .line .kind ≡ 0) × (r .stops ≡ true))
+    × (¬ Unframed input → ¬ Clients (kind-of input) → Unknown (kind-of input) → r .line .answer ≡ 11)
+    × (¬ Unframed input → (k : Kind) → kind-of input ≡ kind-number k
+    → (Early k (st .held) → r .line .answer ≡ 14) × (¬ Early k (st .held) → Wrong k (payload input) → r .line .answer ≡ 13)))
+
+-- "It prints one line for each record except those it skips." "Clean end of input prints nothing."
+abbrev pub Line-for-each : Type 0
+Line-for-each = Of-steps (λ st input r.
+    (0 < length input → Unframed input ⊎ (¬ Clients (kind-of input)) → r .shown ≡ true)
+    × ((length input ≡ 0) ⊎ ((¬ Unframed input) × Clients (kind-of input)) → r .shown ≡ false))

@@ -7,7 +7,7 @@ use mathlib.Core.Logic.{_≢_}
 use mathlib.Core.Bool.{Bool, true, false}
 use mathlib.Core.List.{List, [], _∷_}
 use Prim.Native.Nat.{ℕ}
-use lib.ListN.{length}
+use lib.ListN.{length, drop}
 use lib.Dec.{eqb}
 use Rattle.shape.specs.declared.Shape.{Shape}
 use Rattle.shape.specs.declared.Answer.{Answer}
@@ -27,14 +27,20 @@ use Rattle.stripe.specs.Column.{ColumnRead}
 use Rattle.rebuild.specs.Rebuild.{Rebuild}
 use Rattle.rebuild.specs.Fill.{Fill}
 use Rattle.rebuild.specs.Choose.{Choose}
+use Rattle.job.specs.declared.State.{State}
+use Rattle.job.specs.declared.Turn.{Turn}
+use Rattle.job.specs.Step.{Stepped}
 
--- A client's own buffers, each by its number. Nobody else has them: "Clients share a workspace of fixed length and no other buffer".
+-- A client's own buffers, each by its number, and where its job program stands: the shape held and how many records there were. Nobody else
+-- has them: "Clients share a workspace of fixed length and no other buffer".
 pub record Buffers : Type 0 where
   pub stripes : ℕ → List ℕ
   pub symbols : ℕ → List ℕ
   pub answers : ℕ → List ℕ
+  pub inputs : ℕ → List ℕ
+  pub state : State
 
--- What a client may ask. Shapes, losses, columns and rows are given; stripe, symbol and buffer are numbers of the client's own.
+-- What a client may ask. Shapes, losses, columns and rows are given; stripe, symbol, buffer and input are numbers of the client's own.
 pub data Request : Type 0 where
   encode check locate : (sh : Shape) (stripe : ℕ) → Request
   small-write raw-store : (sh : Shape) (stripe column row symbol : ℕ) → Request
@@ -43,8 +49,9 @@ pub data Request : Type 0 where
   fill choose : (sh : Shape) (stripe : ℕ) (lost : Losses) (column buffer : ℕ) → Request
   prices : (sh : Shape) → Request
   stock : (i : ℕ) → Request
+  job : (input from stripe : ℕ) → Request  -- a step of the job program: the record that begins at this byte of the input
 
--- What it gets: an answer, a report, or the bytes of a part.
+-- What it gets: an answer, a report, the bytes of a part, or what a step of the job program comes to.
 pub data Reply : Type 0 where
   answered : Answer → Reply
   checked : Checked → Reply
@@ -52,6 +59,7 @@ pub data Reply : Type 0 where
   handed : (part : List ℕ) → Reply
   priced : Priced → Reply
   stocked : Stocked → Reply
+  stepped : Turn → Reply
 
 -- ---- what a call may change: own and work are the client's buffers and the workspace before it, own′ and work′ after
 
@@ -59,25 +67,34 @@ pub data Reply : Type 0 where
 abbrev pub Looks : {A : Type 0} → (A → Reply) → (A → Type 0) → Buffers → List ℕ → Reply → Buffers → List ℕ → Type 0
 Looks {A} reply Contract own work r own′ work′ = (a : A) × (r ≡ reply a) × Contract a × (own′ ≡ own) × (work′ ≡ work)
 
--- of the client's buffers, stripe k alone
-pub record Only-stripe (k : ℕ) (own own′ : Buffers) : Type 0 where
+-- of the client's buffers, stripe k alone; its job program then stands at st
+pub record Only-stripe (k : ℕ) (st : State) (own own′ : Buffers) : Type 0 where
   pub stripes : (j : ℕ) → j ≢ k → own′ .stripes j ≡ own .stripes j
   pub symbols : own′ .symbols ≡ own .symbols
   pub answers : own′ .answers ≡ own .answers
+  pub inputs : own′ .inputs ≡ own .inputs
+  pub state : own′ .state ≡ st
 
 abbrev pub Writes : ℕ → (Answer → List ℕ → Type 0) → Buffers → List ℕ → Reply → Buffers → List ℕ → Type 0
 Writes k Contract own work r own′ work′ =
-    (a : Answer) × (r ≡ answered a) × Contract a (own′ .stripes k) × Only-stripe k own own′ × (work′ ≡ work)
+    (a : Answer) × (r ≡ answered a) × Contract a (own′ .stripes k) × Only-stripe k (own .state) own own′ × (work′ ≡ work)
 
 -- that, and the workspace
 abbrev pub Stages : ℕ → (Answer → List ℕ → List ℕ → Type 0) → Buffers → Reply → Buffers → List ℕ → Type 0
-Stages k Contract own r own′ work′ = (a : Answer) × (r ≡ answered a) × Contract a (own′ .stripes k) work′ × Only-stripe k own own′
+Stages k Contract own r own′ work′ = (a : Answer) × (r ≡ answered a) × Contract a (own′ .stripes k) work′ × Only-stripe k (own .state) own own′
+
+-- that, and where its job program stands
+abbrev pub Goes-on : ℕ → (Turn → List ℕ → List ℕ → Type 0) → Buffers → Reply → Buffers → List ℕ → Type 0
+Goes-on k Contract own r own′ work′ =
+    (j : Turn) × (r ≡ stepped j) × Contract j (own′ .stripes k) work′ × Only-stripe k (j .state) own own′
 
 -- of the client's buffers, answer buffer k alone
 pub record Only-answer (k : ℕ) (own own′ : Buffers) : Type 0 where
   pub stripes : own′ .stripes ≡ own .stripes
   pub symbols : own′ .symbols ≡ own .symbols
   pub answers : (j : ℕ) → j ≢ k → own′ .answers j ≡ own .answers j
+  pub inputs : own′ .inputs ≡ own .inputs
+  pub state : own′ .state ≡ own .state
 
 abbrev pub Puts : ℕ → (Answer → List ℕ → Type 0) → Buffers → List ℕ → Reply → Buffers → List ℕ → Type 0
 Puts k Contract own work r own′ work′ =
@@ -97,6 +114,7 @@ Served (fill sh s lost c b) own work = Puts b (Fill sh (own .stripes s) lost c (
 Served (choose sh s lost c b) own work = Looks handed (Choose sh (own .stripes s) lost c (own .answers b)) own work
 Served (prices sh) own work = Looks priced (Prices sh) own work
 Served (stock i) own work = Looks stocked (Stock i) own work
+Served (job i from s) own work = Goes-on s (Stepped (own .state) (drop from (own .inputs i)) (own .stripes s) (length work)) own
 
 -- ---- sequences
 

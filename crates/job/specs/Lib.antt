@@ -1,0 +1,6 @@
+pub mod Record
+pub mod Kinds
+pub mod Step
+pub mod Deciding
+pub mod Printed
+pub mod Printing
