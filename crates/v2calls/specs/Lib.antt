@@ -1,0 +1,4 @@
+pub mod Little
+pub mod Heads
+pub mod Room
+pub mod Told
