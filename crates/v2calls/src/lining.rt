@@ -38,7 +38,13 @@ pub(crate) fn numbers(out: &mut [u8], used: usize, call: usize, told: Told) -> u
 }
 
 // The buffers of a line, and its end.
-pub(crate) fn buffers(out: &mut [u8], used: usize, first: &[u8], second: &[u8], part: &[u8]) -> usize
+pub(crate) fn buffers(
+    out: &mut [u8],
+    used: usize,
+    first: &[u8],
+    second: &[u8],
+    part: &[u8],
+) -> usize
     requires { ⌜ Room (now out) used ⌝ }
     ensures { λ r. ⌜ Room (now (out .exit)) r ⌝ }
 {
