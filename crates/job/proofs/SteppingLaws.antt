@@ -1,6 +1,6 @@
 -- A step: at the end of the input, at a record that is none, and at any other.
 -- To cite: framed, payload-is, step-ended, step-stopped, step-framed.
-use mathlib.Core.Path.{_≡_, refl, sym, ap, _∙_}
+use mathlib.Core.Path.{_≡_, sym, ap, _∙_, subst}
 use mathlib.Core.Logic.{_≢_, inl, inr}
 use mathlib.Core.List.{List}
 use Prim.Native.Nat.{ℕ, _+_, _-_, _≤_, _<_}
@@ -13,6 +13,7 @@ use Rattle.job.specs.declared.Turn.{Turn}
 use Rattle.job.specs.Record.{counted, kind-of, payload, Unframed}
 use Rattle.job.specs.Step.{step-of, stopped, ended, Stepped}
 use Rattle.job.specs.Deciding.{Decides}
+use Rattle.job.proofs.StepLaws.{stepped-end, stepped-broken}
 
 module _ (input : List ℕ) where
   -- a whole record stands there
@@ -29,23 +30,11 @@ module _ (input : List ℕ) where
 
 module _ (st : State) (input s : List ℕ) (room : ℕ) (r : Turn) (clear : List ℕ) (zero : Cleared room clear) where
   pub step-ended : length input ≡ 0 → r ≡ ended st → Stepped st input s room r s clear
-  step-ended none is = record {
-    end = λ e. (is, refl);
-    broken = λ some u. absurd (omega (arith, none));
-    client = λ f z. absurd (f (inl (omega (arith, none))));
-    known = λ f z. absurd (f (inl (omega (arith, none))));
-    cleared = zero;
-  }
+  step-ended none is = subst (λ (q : Turn). Stepped st input s room q s clear) (sym is) (stepped-end st input s room clear zero none)
 
   module _ (some : length input ≢ 0) where
     pub step-stopped : Unframed input → r ≡ stopped st (length input) → Stepped st input s room r s clear
-    step-stopped u is = record {
-      end = λ e. absurd (some e);
-      broken = λ more z. (is, refl);
-      client = λ f z. absurd (f u);
-      known = λ f z. absurd (f u);
-      cleared = zero;
-    }
+    step-stopped u is = subst (λ (q : Turn). Stepped st input s room q s clear) (sym is) (stepped-broken st input s room clear zero (omega arith) u)
 
     pub step-framed : ¬ Unframed input → (kind after : ℕ) (p s′ : List ℕ) (d : Deed) → kind ≡ kind-of input → after ≡ 2 + counted input → p ≡ payload input
         → Decides kind (st .held) p s room d s′ clear → r ≡ step-of st kind d after → Stepped st input s room r s′ clear

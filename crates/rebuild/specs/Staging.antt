@@ -36,5 +36,6 @@ pub record SolvesIf (g : Gone) (v : ℕ → ℕ → ℕ → ℕ) (side d : ℕ) 
 abbrev pub StagedFrom : Gone → (ℕ → ℕ → ℕ → ℕ) → ℕ → List ℕ → Type 0
 StagedFrom g v from out = (side d : ℕ) → side ≤ 1 → column-of g side < g .shape .n → d < g .shape .m → from ≤ d % g .walk → Right g v side d out
 
+-- r is the lesser of a and b
 abbrev pub Lesser : ℕ → ℕ → ℕ → Type 0
 Lesser a b r = (r ≤ a) × (r ≤ b) × ((r ≡ a) ⊎ (r ≡ b))
