@@ -3,6 +3,7 @@ pub mod Served
 pub mod SomeAnswer
 pub mod Alone
 pub mod Demands
+pub mod ColumnRead
 pub mod Reading
 pub mod Tests
 pub mod Five

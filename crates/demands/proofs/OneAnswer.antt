@@ -8,8 +8,8 @@ use Rattle.stripe.proofs.WriteLaws.{write-one}
 use Rattle.stripe.proofs.StoreLaws.{store-one}
 use Rattle.stripe.proofs.ColumnLaws.{column-one}
 use Rattle.rebuild.proofs.RebuildLaws.{rebuild-one}
-use Rattle.rebuild.proofs.FillLaws.{fill-one}
-use Rattle.rebuild.proofs.ChooseLaws.{choose-one}
+use Rattle.filling.proofs.FillLaws.{fill-one}
+use Rattle.filling.proofs.ChooseLaws.{choose-one}
 use Rattle.job.proofs.StepLaws.{step-one}
 use Rattle.demands.specs.OneAnswer.{One-encode, One-check, One-locate, One-small-write, One-raw-store, One-rebuild, One-column, One-fill, One-choose, One-prices, One-stock, One-step}
 

@@ -18,7 +18,7 @@ use Rattle.rule.specs.Losses.{Beyond, Twice}
 use Rattle.rule.specs.Outer.{Outer}
 use Rattle.rule.proofs.SolvesLaws.{solves-outer}
 use Rattle.stripe.specs.Column.{column-table}
-use Rattle.rebuild.specs.Fill.{fill-table, Filled}
+use Rattle.filling.specs.Fill.{fill-table, Filled}
 use Rattle.demands.specs.Cases.{Case, Holds, woven, five, sh₅, information, parity, stripe₅, lost-0-2, flipped-0-1}
 use Rattle.demands.proofs.Tests.{all, left-test, left-by, same-test, lost-test, agrees-by}
 use Rattle.demands.proofs.Five.{good₅, neither, sound₅, solves₅}

@@ -22,9 +22,10 @@ use Rattle.stripe.proofs.WriteLaws.{write-rises}
 use Rattle.stripe.proofs.StoreLaws.{store-rises}
 use Rattle.stripe.proofs.ColumnLaws.{column-rises}
 use Rattle.rebuild.proofs.RebuildLaws.{rebuild-rises}
-use Rattle.rebuild.proofs.FillLaws.{fill-rises, fill-either}
-use Rattle.rebuild.proofs.ChooseLaws
+use Rattle.filling.proofs.FillLaws.{fill-rises, fill-either}
+use Rattle.filling.proofs.ChooseLaws
 use Rattle.job.proofs.StepLaws.{step-12, step-11, step-14, step-13, step-shown, step-hidden}
+use Rattle.demands.proofs.ColumnRead
 use Rattle.demands.specs.Reading.{Layout, Two-chains, Different-columns, Tables-rise, First-is-lowest, Good-is-done, None-broken, Explains-is-mends, Two-parities, Stock-good, Walk-ends, Solved-from, One-outer, Some-outer, Fill-is-rebuild, Fill-either-order, Column-read, Choose-empty, Program-order, Line-for-each}
 
 -- ---- layout and chains
@@ -100,13 +101,13 @@ some-outer = outer-some
 -- ---- column read
 
 pub fill-is-rebuild : Fill-is-rebuild
-fill-is-rebuild = ChooseLaws.rebuild-outer
+fill-is-rebuild = ColumnRead.rebuild-outer
 
 pub fill-either-order : Fill-either-order
 fill-either-order = fill-either
 
 pub column-read : Column-read
-column-read = ChooseLaws.column-read
+column-read = ColumnRead.column-read
 
 pub choose-empty : Choose-empty
 choose-empty sh s lost c buffer part buffer′ a p q = ChooseLaws.choose-empty sh s lost c buffer part buffer′ a p q

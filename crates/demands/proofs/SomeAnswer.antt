@@ -17,8 +17,8 @@ use Rattle.stripe.proofs.WriteLaws.{write-some}
 use Rattle.stripe.proofs.StoreLaws.{store-some}
 use Rattle.stripe.proofs.ColumnLaws.{column-some}
 use Rattle.rebuild.proofs.RebuildLaws.{rebuild-some}
-use Rattle.rebuild.proofs.FillLaws.{fill-some}
-use Rattle.rebuild.proofs.ChooseLaws.{choose-some}
+use Rattle.filling.proofs.FillLaws.{fill-some}
+use Rattle.filling.proofs.ChooseLaws.{choose-some}
 use Rattle.job.specs.declared.State.{State}
 use Rattle.job.proofs.StepLaws.{step-some}
 use Rattle.demands.specs.OneAnswer.{Some-answer}

@@ -18,8 +18,8 @@ use Rattle.stripe.specs.Write.{SmallWrite}
 use Rattle.stripe.specs.Store.{RawStore}
 use Rattle.stripe.specs.Column.{ColumnRead}
 use Rattle.rebuild.specs.Rebuild.{Rebuild}
-use Rattle.rebuild.specs.Fill.{Fill}
-use Rattle.rebuild.specs.Choose.{Choose}
+use Rattle.filling.specs.Fill.{Fill}
+use Rattle.filling.specs.Choose.{Choose}
 use Rattle.job.specs.declared.State.{State}
 use Rattle.job.specs.declared.Turn.{Turn}
 use Rattle.job.specs.Step.{Stepped}

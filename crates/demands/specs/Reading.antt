@@ -26,8 +26,8 @@ use Rattle.stripe.specs.Write.{SmallWrite, write-table}
 use Rattle.stripe.specs.Store.{store-table}
 use Rattle.stripe.specs.Column.{column-table}
 use Rattle.rebuild.specs.Rebuild.{Rebuild, rebuild-table}
-use Rattle.rebuild.specs.Fill.{Fill, fill-table}
-use Rattle.rebuild.specs.Choose.{Choose}
+use Rattle.filling.specs.Fill.{Fill, fill-table}
+use Rattle.filling.specs.Choose.{Choose}
 use Rattle.job.specs.declared.State.{State}
 use Rattle.job.specs.declared.Turn.{Turn}
 use Rattle.job.specs.Record.{kind-of, payload, Unframed, Clients}

@@ -10,5 +10,4 @@ pub mod ShapingLaws
 pub mod MendingLaws
 pub mod DecidingLaws
 pub mod SteppingLaws
-pub mod PrintedLaws
 pub mod TakenLaws

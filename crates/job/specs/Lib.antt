@@ -2,5 +2,3 @@ pub mod Record
 pub mod Kinds
 pub mod Step
 pub mod Deciding
-pub mod Printed
-pub mod Printing

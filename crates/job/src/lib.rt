@@ -3,15 +3,13 @@ mod asking;
 mod deciding;
 mod framing;
 mod holding;
-mod printing;
 mod rebuilding;
 mod shaping;
 mod stepping;
 mod telling;
 mod writing;
 
-pub use printing::LONGEST_LINE;
-pub use printing::print;
+use line::Line;
 use shape::Shape;
 pub use stepping::step;
 
@@ -31,15 +29,6 @@ pub struct State {
 pub struct Deed {
     pub held: Held,
     pub shown: bool,
-    pub answer: usize,
-    pub x: usize,
-    pub y: usize,
-}
-
-// The fields of a line.
-pub struct Line {
-    pub number: usize,
-    pub kind: usize,
     pub answer: usize,
     pub x: usize,
     pub y: usize,

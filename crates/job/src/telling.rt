@@ -5,9 +5,9 @@ ghost use Rattle.job.specs.Kinds.{deed, skipped};
 ghost use Rattle.job.specs.Step.{step-of, stopped, ended};
 use crate::Deed;
 use crate::Held;
-use crate::Line;
 use crate::State;
 use crate::Turn;
+use line::Line;
 use shape::Answer;
 
 // A line with its answer, x and y; the shape held after it is `held`.

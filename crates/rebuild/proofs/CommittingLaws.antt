@@ -15,9 +15,10 @@ use Rattle.stripe.specs.Set.{Set}
 use Rattle.solving.specs.declared.Gone.{Gone}
 use Rattle.solving.specs.Outer.{column-of, base-of, spot}
 use Rattle.solving.specs.Agreeing.{patched}
-use Rattle.rebuild.specs.Staging.{Stageable}
-use Rattle.rebuild.specs.Committing.{side-at, height-at, column-at, staged-symbol, stores-of, stores-in-all, Led, Made}
-use Rattle.rebuild.proofs.StagingLaws.{spot-fits}
+use Rattle.staging.specs.Reading.{Led}
+use Rattle.staging.specs.Staging.{Stageable}
+use Rattle.rebuild.specs.Committing.{side-at, height-at, column-at, staged-symbol, stores-of, stores-in-all, Made}
+use Rattle.staging.proofs.StagingLaws.{spot-fits}
 
 -- the symbol as the code cuts it out of the workspace
 pub set-part : (sh : Shape) (s work s′ : List ℕ) (d c at from : ℕ) → at ≡ from → Set sh s d c (take (at + sh .w - at) (drop at work)) s′

@@ -1,9 +1,3 @@
 pub mod RebuildLaws
-pub mod FillLaws
-pub mod ChooseLaws
-pub mod StagingLaws
-pub mod ReadingLaws
 pub mod CommittingLaws
 pub mod MendingLaws
-pub mod FillingLaws
-pub mod HandedBackLaws

@@ -28,12 +28,12 @@ use Rattle.solving.specs.declared.Gone.{Gone}
 use Rattle.solving.specs.Outer.{column-of, chain-of, Solved}
 use Rattle.solving.specs.Agreeing.{patched, Uses, Holds, Agreed, Patchable}
 use Rattle.solving.proofs.AgreeingLaws.{patched-first, patched-second, patched-else, uses?}
-use Rattle.rebuild.specs.Reading.{Read}
-use Rattle.rebuild.specs.Staging.{Stageable, Staged}
-use Rattle.rebuild.specs.Committing.{stores-in-all, Led, Made}
+use Rattle.staging.specs.Reading.{Read, Led}
+use Rattle.staging.specs.Staging.{Stageable, Staged}
+use Rattle.rebuild.specs.Committing.{stores-in-all, Made}
 use Rattle.rebuild.specs.Rebuild.{late-table, Otherwise-good}
-use Rattle.rebuild.proofs.StagingLaws.{spot-fits}
-use Rattle.rebuild.proofs.ReadingLaws.{read-here, read-stageable, read-led, read-apart, read-staged}
+use Rattle.staging.proofs.StagingLaws.{spot-fits}
+use Rattle.staging.proofs.ReadingLaws.{read-here, read-stageable, read-led, read-apart, read-staged}
 use Rattle.rebuild.proofs.CommittingLaws.{made-all}
 
 module _ (g : Gone) (lost : Losses) (r : Read (g .shape) lost g) (good : Good (g .shape)) (fit : ¬ Beyond (g .shape .n) lost) (apart : ¬ Twice lost) where

@@ -2,7 +2,7 @@
 use mathlib.Core.Path.{_≡_}
 use mathlib.Core.Bool.{cond}
 use mathlib.Core.List.{List}
-use Prim.Native.Nat.{ℕ, zero, suc, _+_, _-_, _*_, _<_}
+use Prim.Native.Nat.{ℕ, zero, suc, _+_, _-_, _*_}
 use lib.Dec.{ltb}
 use lib.ListN.{take, drop}
 use Rattle.stripe.specs.Set.{Set}
@@ -31,10 +31,6 @@ stores-of g c = cond (ltb c (g .shape .n)) (g .shape .m) 0
 
 unfoldable pub stores-in-all : Gone → ℕ
 stores-in-all g = stores-of g (g .first) + stores-of g (g .second)
-
--- second is lost only where first is
-abbrev pub Led : Gone → Type 0
-Led g = g .second < g .shape .n → g .first < g .shape .n
 
 -- s′ is the stripe s after the first k stores
 unfoldable pub Made : Gone → List ℕ → ℕ → List ℕ → List ℕ → Type 0

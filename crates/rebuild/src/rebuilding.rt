@@ -7,13 +7,13 @@ ghost use Rattle.rule.specs.Losses.{Solves};
 ghost use Rattle.rebuild.specs.Rebuild.{late-table, rebuild-table, Otherwise-good, Rebuild};
 use crate::committing::commit;
 use crate::committing::stores;
-use crate::reading::read;
 use crate::refusing::refusal;
-use crate::staging::stage;
 use rule::Losses;
 use shape::Answer;
 use shape::Shape;
 use solving::agree;
+use staging::read;
+use staging::stage;
 
 // Stages the lost columns, and writes them if the survivors agree.
 fn mend(shape: Shape, lost: Losses, stripe: &mut [u8], work: &mut [u8]) -> Answer

@@ -1,33 +1,11 @@
 // What a rebuild is refused for before its survivors are asked.
-ghost use Rattle.xor.specs.Asked.{Tells};
 ghost use Rattle.shape.specs.Answers.{number, First};
-ghost use Rattle.rule.specs.Losses.{Beyond, Twice};
 ghost use Rattle.rebuild.specs.Rebuild.{early-table};
 use rule::Losses;
+use rule::beyond;
+use rule::twice;
 use shape::Answer;
 use shape::Shape;
-
-// Whether a column named lost is n or more.
-pub(crate) fn beyond(n: usize, lost: Losses) -> bool
-    ensures { λ r. ⌜ Tells (Beyond n lost) r ⌝ }
-{
-    match lost {
-        Losses::None => false,
-        Losses::One(a) => n <= a,
-        Losses::Two(a, b) => n <= a || n <= b,
-    }
-}
-
-// Whether both lost columns are the same.
-pub(crate) fn twice(lost: Losses) -> bool
-    ensures { λ r. ⌜ Tells (Twice lost) r ⌝ }
-{
-    match lost {
-        Losses::None => false,
-        Losses::One(_) => false,
-        Losses::Two(a, b) => a == b,
-    }
-}
 
 // The refusals 1 to 7 of a rebuild with a workspace of `room` bytes; Done where none applies.
 pub(crate) fn refusal(shape: Shape, lost: Losses, stripe: &[u8], room: usize) -> Answer

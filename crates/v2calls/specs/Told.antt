@@ -18,8 +18,8 @@ use Rattle.stripe.specs.Write.{SmallWrite}
 use Rattle.stripe.specs.Store.{RawStore}
 use Rattle.stripe.specs.Handed.{Handed}
 use Rattle.rebuild.specs.Rebuild.{Rebuild}
-use Rattle.rebuild.specs.Fill.{Fill}
-use Rattle.rebuild.specs.HandedBack.{HandedBack}
+use Rattle.filling.specs.Fill.{Fill}
+use Rattle.filling.specs.HandedBack.{HandedBack}
 use Rattle.stock.specs.declared.Priced.{Priced}
 use Rattle.stock.specs.declared.Stocked.{Stocked}
 use Rattle.stock.specs.Prices.{Prices}

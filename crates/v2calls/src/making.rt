@@ -152,7 +152,7 @@ pub(crate) fn make(head: Head, first: &mut [u8], second: &mut [u8]) -> Told
         4 => answered(stripe::small_write(shape, first, head.a, head.b, second)),
         5 => answered(stripe::raw_store(shape, first, head.a, head.b, second)),
         6 => rebuilt(head, first, second),
-        7 => answered(rebuild::fill(shape, first, named(head.a, head.b, head.c), head.d, second)),
+        7 => answered(filling::fill(shape, first, named(head.a, head.b, head.c), head.d, second)),
         10 => priced(head),
         11 => stocked(head),
         _ => answered(Answer::Done),
@@ -165,7 +165,7 @@ pub(crate) fn part<'a>(head: Head, first: &'a [u8], second: &'a [u8]) -> &'a [u8
 {
     let call = head.call;
     match call {
-        8 => rebuild::choose(
+        8 => filling::choose(
             head.shape,
             first,
             named(head.a, head.b, head.c),

@@ -8,7 +8,7 @@ use native.Mathlib.Omega.{arith}
 use borrow.Rule.Slice.PartMut.{putMid, take-put}
 use lib.ListN.{length, take, drop, length-append}
 use lib.Seq.{length-take-le, take-take, take-append-add, take-append-le, take-append-seam}
-use Rattle.job.specs.declared.Line.{Line}
+use Rattle.line.specs.declared.Line.{Line}
 use Rattle.v2job.specs.declared.Shelf.{Shelf}
 use Rattle.v2job.specs.Waiting.{Collects, Shows}
 

@@ -5,9 +5,9 @@ use mathlib.Core.Bool.{Bool, true, false, not, _&&_}
 use mathlib.Core.List.{List, _++_}
 use Prim.Native.Nat.{ℕ, _+_, _-_, _≤_}
 use lib.ListN.{length, take, drop}
-use Rattle.job.specs.declared.Line.{Line}
+use Rattle.line.specs.declared.Line.{Line}
 use Rattle.job.specs.declared.Turn.{Turn}
-use Rattle.job.specs.Printed.{text, longest-line}
+use Rattle.line.specs.Printed.{text, longest-line}
 use Rattle.job.specs.Step.{Stepped}
 use Rattle.v2job.specs.declared.Feed.{Feed}
 use Rattle.v2job.specs.declared.Shelf.{Shelf}

@@ -1,14 +1,14 @@
-// The job program: records from standard input, lines to standard output. The step and the line's text are those of `job`; here is only where bytes wait.
+// The job program: records from standard input, lines to standard output. The step is `job`'s and the line's text `line`'s; here is only where bytes wait.
 ghost use mathlib.Core.Path.{_≡_};
 ghost use Prim.Native.Nat.{ℕ, _-_, _≤_};
 ghost use lib.ListN.{length, take, drop};
 ghost use Rattle.job.specs.declared.Held.the-variants.{None};
-ghost use Rattle.job.specs.Printed.{longest-line};
+ghost use Rattle.line.specs.Printed.{longest-line};
 ghost use Rattle.v2job.specs.Waiting.{longest-record, Waits, Refilled, Collects, Ready, Added, Shows, Goes, Turned};
 use job::Held;
-use job::LONGEST_LINE;
-use job::Line;
 use job::State;
+use line::LONGEST_LINE;
+use line::Line;
 
 // The longest record: a length of two bytes, then at most 4,100.
 const LONGEST_RECORD: usize = 4102;
@@ -92,7 +92,7 @@ fn add(line: Line, shelf: Shelf, output: &mut [u8]) -> Shelf
 {
     let ready = make_room(shelf, output);
     let filled = ready.filled;
-    let more = job::print(line, &mut output[filled..]);
+    let more = line::print(line, &mut output[filled..]);
     Shelf {
         filled: filled + more,
         open: ready.open,

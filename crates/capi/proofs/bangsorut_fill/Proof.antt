@@ -5,7 +5,7 @@ use Rattle.capi.proofs.bangsorut_fill.Statement.{statement}
 use Rattle.capi.proofs.bangsorut_fill.Tie as tie
 use Rattle.capi.proofs.bangsorut_fill.Reads as reads
 use Rattle.capi.proofs.bangsorut_fill.Lts as lts
-use Rattle.rebuild.proofs.fill.Reads as fill-reads
+use Rattle.filling.proofs.fill.Reads as fill-reads
 use Rattle.rule.proofs.named.Reads as named-reads
 use Rattle.shape.proofs.Answer.number.Reads as number-reads
 

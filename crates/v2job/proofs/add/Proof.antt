@@ -7,7 +7,7 @@ use native.Mathlib.Omega.{arith}
 use borrow.Author.Needs.{needs}
 use borrow.Rule.Slice.PartMut.{midOf, mid-len}
 use lib.ListN.{length, drop, length-append}
-use Rattle.job.specs.Printed.{text, longest-line}
+use Rattle.line.specs.Printed.{text, longest-line}
 use Rattle.v2job.proofs.WaitingLaws.{lines-added}
 use Rattle.v2job.proofs.add.Statement.{statement}
 use Rattle.v2job.proofs.add.Tie as tie

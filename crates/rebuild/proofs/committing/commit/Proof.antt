@@ -3,7 +3,7 @@ use mathlib.Core.Path.{refl, subst}
 use Prim.Native.Nat.{ℕ, _-_, _≤_}
 use native.Mathlib.Omega.{arith}
 use Rattle.rebuild.specs.Committing.{Made}
-use Rattle.rebuild.proofs.StagingLaws.{stageable-stripe}
+use Rattle.staging.proofs.StagingLaws.{stageable-stripe}
 use Rattle.rebuild.proofs.CommittingLaws.{made-long, made-next}
 use Rattle.rebuild.proofs.committing.commit.Statement.{statement}
 use Rattle.rebuild.proofs.committing.commit.Tie as tie

@@ -1,0 +1,4 @@
+pub mod FillLaws
+pub mod ChooseLaws
+pub mod FillingLaws
+pub mod HandedBackLaws

@@ -1,0 +1,4 @@
+pub mod Fill
+pub mod Choose
+pub mod Filling
+pub mod HandedBack

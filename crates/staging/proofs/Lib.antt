@@ -1,0 +1,2 @@
+pub mod StagingLaws
+pub mod ReadingLaws
