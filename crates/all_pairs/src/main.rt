@@ -3,16 +3,15 @@
 ghost use mathlib.Core.Path.{_≡_};
 ghost use lib.ListN.{length};
 ghost use Rattle.shape.specs.Good.{Good, size};
-use crate::bytes::pattern;
-use crate::bytes::sum;
 use crate::trying::altered;
 use crate::trying::none;
 use crate::trying::pairs;
 use crate::trying::singles;
 use shape::Answer;
 use shape::Shape;
+use trial::pattern;
+use trial::sum;
 
-mod bytes;
 mod tally;
 mod trying;
 

@@ -4,12 +4,12 @@ ghost use Prim.Native.Nat.{_+_, _≤_, _<_};
 ghost use lib.ListN.{length};
 ghost use Rattle.shape.specs.Good.{Good, size};
 ghost use Rattle.all_pairs.specs.Tallies.{Sane, runs-most};
-use crate::bytes::all_zero;
-use crate::bytes::pattern;
 use crate::tally::Tally;
 use check::same;
 use rule::Losses;
 use shape::Shape;
+use trial::pattern;
+use trial::zeros;
 use xor::copy;
 
 // One rebuild of the stripe as given, in a workspace full of old bytes: whether it answers the number, leaves the stripe so and the workspace all zero.
@@ -29,11 +29,7 @@ fn rebuilt(
     copy(given, stripe, 0);
     pattern(work, 5);
     let answer = rebuild::rebuild(shape, lost, stripe, work);
-    tally.with(
-        answer.number() == number,
-        same(stripe, left),
-        all_zero(work),
-    )
+    tally.with(answer.number() == number, same(stripe, left), zeros(work))
 }
 
 // Stores other bytes in a column.

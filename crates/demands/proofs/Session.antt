@@ -174,7 +174,7 @@ module _ (room : ℕ) (enough : 2 * column-length sh₅ ≤ room) where
   unfolding session session-lines two-bytes counted kind-of payload kind-number named-shape step-of next printed size stripe₅ woven information parity
   prints₁ =
       goes start session stripe₅ (omega arith) Kind.shaping refl (λ z. z) (λ ne. ne refl) (deed (Some sh₅) 0 10 0) (replicate 10 0)
-      (0, shape-done sh₅ .0 good₅, inl (refl, record { is = refl; zeros = record { long = refl; front = λ i h. getD-replicate 10 i 0 0 h; rest = refl } }))
+      (0, shape-done sh₅ .0 good₅, inl (refl, record { is = refl; zeros = λ i h. getD-replicate 10 i 0 0 h; inside = record { long = refl; rest = refl } }))
       (five 1 1 0 10 0) (drop 1 session-lines) refl prints₂
 
   -- ---- the refusals

@@ -4,12 +4,12 @@ use mathlib.Core.List.{List, _++_}
 use Prim.Native.Nat.{ℕ, _+_, _-_, _≤_, _<_}
 use native.Mathlib.Omega.{arith}
 use native.Mathlib.Decide.{decLe, decLt}
-use lib.ListN.{length, getD, take, drop, replicate, take-append-drop, drop-of-length-le, length-replicate, getD-replicate, List·getD-eq-default}
-use lib.Seq.{length-take-le, length-front, take-all, take-at, drop-at, getD-take, getD-drop, ext-getD}
+use lib.ListN.{length, getD, take, drop, replicate, take-append-drop, drop-of-length-le, length-replicate, getD-replicate, List·getD-eq-default, length-take}
+use lib.Seq.{length-take-le, length-front, take-all, take-at, drop-at, getD-take, ext-getD}
 use Rattle.shape.specs.declared.Shape.{Shape}
 use Rattle.shape.specs.Good.{size}
 use Rattle.rebuild.specs.Rebuild.{Cleared}
-use Rattle.job.specs.Kinds.{Zeros, stripe, Inside}
+use Rattle.job.specs.Kinds.{stripe, Inside}
 
 -- ---- the stripe and the rest
 
@@ -43,23 +43,19 @@ module _ (sh : Shape) (s : List ℕ) where
 
   -- ---- the stripe zeros
 
-  pub zeros-one : (x y : List ℕ) → Zeros sh s x → Zeros sh s y → x ≡ y
-  zeros-one x y p q = ext-getD 0 x y (p .long ∙ sym (q .long)) (λ i h. at i (decLe (size sh) i))
-    where
-      beyond : (i : ℕ) → size sh ≤ i → size sh + (i - size sh) ≡ i
-      beyond i h = omega arith
+  module _ (x : List ℕ) (p : Inside sh s x) (zero : (i : ℕ) → i < size sh → getD x i 0 ≡ 0) where
+    pub zeros-are : stripe sh x ≡ replicate (length (stripe sh s)) 0
+    zeros-are = ext-getD 0 (stripe sh x) (replicate (length (stripe sh s)) 0) long (λ i h.
+        let lt : i < size sh = omega (arith, length-take (size sh) x) in
+        getD-take (size sh) x i 0 lt ∙ zero i lt ∙ sym (getD-replicate {A = ℕ} (length (stripe sh s)) i 0 0 (omega (arith, long, length-replicate {A = ℕ} (length (stripe sh s)) 0))))
+      where
+        long : length (stripe sh x) ≡ length {A = ℕ} (replicate (length (stripe sh s)) 0)
+        long = omega (arith, length-take (size sh) x, length-take (size sh) s, p .long, length-replicate {A = ℕ} (length (stripe sh s)) 0)
 
-      at : (i : ℕ) → Dec (size sh ≤ i) → getD x i 0 ≡ getD y i 0
-      at i (yes h) =
-          ap (λ (k : ℕ). getD x k 0) (sym (beyond i h)) ∙ sym (getD-drop (size sh) x (i - size sh) 0)
-          ∙ ap (λ (l : List ℕ). getD l (i - size sh) 0) (p .rest ∙ sym (q .rest))
-          ∙ getD-drop (size sh) y (i - size sh) 0 ∙ ap (λ (k : ℕ). getD y k 0) (beyond i h)
-      at i (no h) = p .front i (omega arith) ∙ sym (q .front i (omega arith))
-
-  pub zeros-some : (s′ : List ℕ) × Zeros sh s s′
+  pub zeros-some : (s′ : List ℕ) × ((i : ℕ) → i < size sh → getD s′ i 0 ≡ 0) × Inside sh s s′
   zeros-some =
       let (s′, e, i) = inside-some (replicate (length (stripe sh s)) 0) (length-replicate _ 0) in
-      (s′, record { long = i .long; front = λ i h. sym (getD-take (size sh) s′ i 0 h) ∙ ap (λ (l : List ℕ). getD l i 0) e ∙ zero (length (stripe sh s)) i; rest = i .rest })
+      (s′, (λ i h. sym (getD-take (size sh) s′ i 0 h) ∙ ap (λ (l : List ℕ). getD l i 0) e ∙ zero (length (stripe sh s)) i), i)
     where
       zero : (n i : ℕ) → getD {A = ℕ} (replicate n 0) i 0 ≡ 0
       zero n i = at (decLt i n)

@@ -36,7 +36,7 @@ use Rattle.job.specs.declared.Held.the-variants.{None, Some}
 use Rattle.job.specs.declared.Deed.{Deed}
 use Rattle.job.specs.Kinds.{Shapeless, Kind, shaping, writing, storing, checking, locating, rebuilding, kind-number}
 use Rattle.job.specs.Kinds.{Unknown, Early, Wrong, Of, job-table, deed, named-shape, Shapes, stripe, Inside, Does, Tells-of}
-use Rattle.job.proofs.BufferLaws.{inside-one, inside-kept, inside-some, zeros-one, zeros-some}
+use Rattle.job.proofs.BufferLaws.{inside-one, inside-kept, inside-some, zeros-are, zeros-some}
 
 -- ---- the kind of a number
 
@@ -202,7 +202,11 @@ module _ (h : Held) (p s : List ℕ) where
   T = shape-table (named-shape p)
 
   shapes-one : (d e : Deed) (x y : List ℕ) → Shapes h p s d x → Shapes h p s e y → (d ≡ e) × (x ≡ y)
-  shapes-one d e x y (j, f, inl u) (k, g, inl v) = (u .1 .is ∙ sym (v .1 .is), zeros-one (named-shape p) s x y (u .1 .zeros) (v .1 .zeros))
+  shapes-one d e x y (j, f, inl u) (k, g, inl v) = (
+    u .1 .is ∙ sym (v .1 .is),
+    inside-one (named-shape p) s x y (u .1 .inside) (v .1 .inside) (
+        zeros-are (named-shape p) s x (u .1 .inside) (u .1 .zeros) ∙ sym (zeros-are (named-shape p) s y (v .1 .inside) (v .1 .zeros))),
+  )
   shapes-one d e x y (j, f, inl u) (k, g, inr v) = absurd (v .0 (first-one T k j g f ∙ u .0))
   shapes-one d e x y (j, f, inr u) (k, g, inl v) = absurd (u .0 (first-one T j k f g ∙ v .0))
   shapes-one d e x y (j, f, inr u) (k, g, inr v) = (u .1 ∙ ap (λ (k : ℕ). deed h k 0 0) (first-one T j k f g) ∙ sym (v .1), u .2 ∙ sym (v .2))
@@ -211,7 +215,7 @@ module _ (h : Held) (p s : List ℕ) where
   shapes-some = let (k, f) = table-some T (shape-ready (named-shape p)) in at k f (ℕ-discrete k 0)
     where
       at : (k : ℕ) → First T k → Dec (k ≡ 0) → (d : Deed) × (s′ : List ℕ) × Shapes h p s d s′
-      at k f (yes e) = let (s′, z) = zeros-some (named-shape p) s in (_, s′, (k, f, inl (e, record { is = refl; zeros = z })))
+      at k f (yes e) = let (s′, z, i) = zeros-some (named-shape p) s in (_, s′, (k, f, inl (e, record { is = refl; zeros = z; inside = i })))
       at k f (no e) = (_, s, (k, f, inr (e, refl, refl)))
 
   shapes-refused : (d : Deed) (x : List ℕ) → Shapes h p s d x → Unchanged h s d x

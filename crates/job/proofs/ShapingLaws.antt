@@ -3,7 +3,7 @@
 use mathlib.Core.Path.{_≡_, refl, sym, ap, _∙_}
 use mathlib.Core.Logic.{_≢_, inl, inr}
 use mathlib.Core.List.{List, _++_}
-use Prim.Native.Nat.{ℕ}
+use Prim.Native.Nat.{ℕ, _<_}
 use lib.ListN.{length, getD, take, drop}
 use lib.Seq.{getD-take}
 use Rattle.shape.specs.declared.Shape.{Shape}
@@ -14,7 +14,7 @@ use Rattle.job.specs.declared.Held.{Held}
 use Rattle.job.specs.declared.Held.the-variants.{Some}
 use Rattle.job.specs.declared.Deed.{Deed}
 use Rattle.job.specs.Record.{two-bytes}
-use Rattle.job.specs.Kinds.{deed, named-shape, Zeros, Shapes}
+use Rattle.job.specs.Kinds.{deed, named-shape, Shapes}
 use Rattle.job.specs.Deciding.{Front}
 use Rattle.job.proofs.FrontLaws.{front-stripe, front-inside}
 
@@ -28,15 +28,9 @@ module _ (h : Held) (p s : List ℕ) (sh : Shape) (is : sh ≡ named-shape p) (d
   shapes-refused k first ne ed = (k, rw (sym is) first, inr (ne, ed, refl))
 
   module _ (end : ℕ) (f : Front sh (length s) end) (ys : List ℕ) (same : length ys ≡ length (take end s)) (zero : (i : ℕ) → getD ys i 0 ≡ 0) where
-    zeros : Zeros sh s (ys ++ drop end s)
-    zeros =
-        let inside = front-inside sh s end f ys same in record {
-          long = inside .long;
-          front = λ i below.
-              sym (getD-take (size sh) (ys ++ drop end s) i 0 below) ∙ ap (λ (r : List ℕ). getD r i 0) (front-stripe sh s end f ys same) ∙ zero i;
-          rest = inside .rest;
-        }
+    zeros : (i : ℕ) → i < size sh → getD (ys ++ drop end s) i 0 ≡ 0
+    zeros i below = sym (getD-take (size sh) (ys ++ drop end s) i 0 below) ∙ ap (λ (r : List ℕ). getD r i 0) (front-stripe sh s end f ys same) ∙ zero i
 
     pub shapes-begun : Good sh → (x : ℕ) → x ≡ size sh → d ≡ deed (Some sh) 0 x 0 → Shapes h p s d (ys ++ drop end s)
     shapes-begun good x ex ed =
-        (0, rw (sym is) (shape-done sh .0 good), inl (refl, rw (sym is) record { is = ed ∙ ap (λ (k : ℕ). deed (Some sh) 0 k 0) ex; zeros = zeros }))
+        (0, rw (sym is) (shape-done sh .0 good), inl (refl, rw (sym is) record { is = ed ∙ ap (λ (k : ℕ). deed (Some sh) 0 k 0) ex; zeros = zeros; inside = front-inside sh s end f ys same }))

@@ -82,31 +82,27 @@ job-table h kind p =
 abbrev pub deed : Held → ℕ → ℕ → ℕ → Deed
 deed h a x y = record { held = h; shown = true; answer = a; x = x; y = y }
 
--- "1 shape (m, n one byte each, w two bytes; the stripe becomes zeros)"; "shape gives x = m·n·w". "A refused shape leaves the old one."
-unfoldable pub named-shape : List ℕ → Shape
-named-shape p = shape (getD p 0 0) (getD p 1 0) (two-bytes p 2)
-
-pub record Zeros (sh : Shape) (s s′ : List ℕ) : Type 0 where
-  pub long : length s′ ≡ length s
-  pub front : (i : ℕ) → i < size sh → getD s′ i 0 ≡ 0
-  pub rest : drop (size sh) s′ ≡ drop (size sh) s
-
-pub record Begins (sh : Shape) (s : List ℕ) (d : Deed) (s′ : List ℕ) : Type 0 where
-  pub is : d ≡ deed (Some sh) 0 (size sh) 0
-  pub zeros : Zeros sh s s′
-
-abbrev pub Shapes : Held → List ℕ → List ℕ → Deed → List ℕ → Type 0
-Shapes h p s d s′ =
-    (k : ℕ) × First (shape-table (named-shape p)) k
-    × (((k ≡ 0) × Begins (named-shape p) s d s′) ⊎ ((k ≢ 0) × (d ≡ deed h k 0 0) × (s′ ≡ s)))
-
--- the stripe of a shape in that buffer; a call on it leaves the rest
+-- the stripe of a shape in that buffer; what a record does to it leaves the rest
 abbrev pub stripe : Shape → List ℕ → List ℕ
 stripe sh s = take (size sh) s
 
 pub record Inside (sh : Shape) (s s′ : List ℕ) : Type 0 where
   pub long : length s′ ≡ length s
   pub rest : drop (size sh) s′ ≡ drop (size sh) s
+
+-- "1 shape (m, n one byte each, w two bytes; the stripe becomes zeros)"; "shape gives x = m·n·w". "A refused shape leaves the old one."
+unfoldable pub named-shape : List ℕ → Shape
+named-shape p = shape (getD p 0 0) (getD p 1 0) (two-bytes p 2)
+
+pub record Begins (sh : Shape) (s : List ℕ) (d : Deed) (s′ : List ℕ) : Type 0 where
+  pub is : d ≡ deed (Some sh) 0 (size sh) 0
+  pub zeros : (i : ℕ) → i < size sh → getD s′ i 0 ≡ 0
+  pub inside : Inside sh s s′
+
+abbrev pub Shapes : Held → List ℕ → List ℕ → Deed → List ℕ → Type 0
+Shapes h p s d s′ =
+    (k : ℕ) × First (shape-table (named-shape p)) k
+    × (((k ≡ 0) × Begins (named-shape p) s d s′) ⊎ ((k ≢ 0) × (d ≡ deed h k 0 0) × (s′ ≡ s)))
 
 -- "2 small write (column, row, symbol). 3 raw store (same payload, any row, no parity touched)."
 abbrev pub Stores : (Shape → List ℕ → ℕ → ℕ → List ℕ → Answer → List ℕ → Type 0) → Shape → List ℕ → List ℕ → Deed → List ℕ → Type 0

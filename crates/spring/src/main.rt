@@ -4,7 +4,6 @@ ghost use mathlib.Core.Path.{_≡_};
 ghost use mathlib.Core.Logic.{_⊎_};
 ghost use Prim.Native.Nat.{ℕ, _≤_, _<_};
 ghost use lib.ListN.{length, getD};
-ghost use Rattle.xor.specs.Asked.{Tells, Zero};
 ghost use Rattle.shape.specs.declared.Answer.{Answer};
 ghost use Rattle.shape.specs.Good.{Good, size, shape};
 ghost use Rattle.rule.specs.declared.Losses.the-variants.{Two};
@@ -16,18 +15,9 @@ use check::same;
 use rule::Losses;
 use shape::Answer;
 use shape::Shape;
+use trial::pattern;
+use trial::zeros;
 use xor::copy;
-
-// Fills s with bytes that go on from the seed, each its own way.
-fn pattern(s: &mut [u8], seed: usize) {
-    let mut x = seed % 65536;
-    let mut i = 0;
-    while i < s.len() {
-        x = (x * 25173 + 13849) % 65536;
-        s[i] = (x / 256 % 256) as u8;
-        i += 1;
-    }
-}
 
 // A stripe of a client, encoded: it obeys the rule.
 fn encoded(shape: Shape, stripe: &mut [u8], seed: usize)
@@ -47,20 +37,6 @@ fn spoil(s: &mut [u8], from: usize, to: usize)
         s[i] = 238;
         i += 1;
     }
-}
-
-// Whether every byte is 0.
-fn zeros(s: &[u8]) -> bool
-    ensures { λ r. ⌜ Tells (Zero (now (s .entry)) (length (now (s .entry)))) r ⌝ }
-{
-    let mut i = 0;
-    while i < s.len() {
-        if s[i] != 0 {
-            return false;
-        }
-        i += 1;
-    }
-    true
 }
 
 // A byte as a number to print.

@@ -3,8 +3,8 @@ use Prim.Native.Nat.{_-_, _≤_, _<_}
 use native.Mathlib.Omega.{arith}
 use lib.ListN.{length}
 use borrow.Author.Needs.{needs}
-use Rattle.all_pairs.proofs.bytes.sum.Statement.{statement}
-use Rattle.all_pairs.proofs.bytes.sum.Tie as tie
+use Rattle.trial.proofs.sum.Statement.{statement}
+use Rattle.trial.proofs.sum.Tie as tie
 
 abbrev Inv-loop : tie.InvT-loop
 Inv-loop s sum₀ i₀ sum i = (i ≤ length s) × (sum < 65521)

@@ -7,8 +7,8 @@ use borrow.Author.Needs.{needs}
 use borrow.Author.Count.{below-more}
 use Rattle.xor.specs.Asked.{Zero}
 use Rattle.xor.proofs.AskedLaws.{tells-true, tells-false}
-use Rattle.spring.proofs.zeros.Statement.{statement}
-use Rattle.spring.proofs.zeros.Tie as tie
+use Rattle.trial.proofs.zeros.Statement.{statement}
+use Rattle.trial.proofs.zeros.Tie as tie
 
 abbrev Inv-loop : tie.InvT-loop
 Inv-loop s i₀ i = (i ≤ length s) × Zero s i

@@ -1,7 +1,9 @@
-// Bytes to work on, and what is asked of them.
+// Bytes to try the calls on, and what is asked of them.
+ghost use lib.ListN.{length};
+ghost use Rattle.xor.specs.Asked.{Tells, Zero};
 
 // Fills s with bytes that go on from the seed, each its own way.
-pub(crate) fn pattern(s: &mut [u8], seed: usize) {
+pub fn pattern(s: &mut [u8], seed: usize) {
     let mut x = seed % 65536;
     let mut i = 0;
     while i < s.len() {
@@ -12,7 +14,7 @@ pub(crate) fn pattern(s: &mut [u8], seed: usize) {
 }
 
 // A number that depends on every byte and on their order.
-pub(crate) fn sum(s: &[u8]) -> u64 {
+pub fn sum(s: &[u8]) -> u64 {
     let mut sum = 0;
     let mut i = 0;
     while i < s.len() {
@@ -23,7 +25,9 @@ pub(crate) fn sum(s: &[u8]) -> u64 {
 }
 
 // Whether every byte is 0.
-pub(crate) fn all_zero(s: &[u8]) -> bool {
+pub fn zeros(s: &[u8]) -> bool
+    ensures { λ r. ⌜ Tells (Zero (now (s .entry)) (length (now (s .entry)))) r ⌝ }
+{
     let mut i = 0;
     while i < s.len() {
         if s[i] != 0 {

@@ -4,8 +4,8 @@ use Prim.Native.Nat.{_-_, _≤_, _<_}
 use native.Mathlib.Omega.{arith}
 use lib.ListN.{length, length-set}
 use borrow.Author.Needs.{needs}
-use Rattle.spring.proofs.pattern.Statement.{statement}
-use Rattle.spring.proofs.pattern.Tie as tie
+use Rattle.trial.proofs.pattern.Statement.{statement}
+use Rattle.trial.proofs.pattern.Tie as tie
 
 abbrev Inv-loop : tie.InvT-loop
 Inv-loop s₀ seed x₀ i₀ s x i = (i ≤ length s) × (length s ≡ length s₀) × (x < 65536)
