@@ -22,13 +22,13 @@ use Rattle.rule.specs.Rule.{chain}
 use Rattle.rule.specs.Outer.{walk}
 use Rattle.rule.proofs.OrderLaws.{walk-lt, walk-pos, walk-reach}
 use Rattle.solving.specs.declared.Gone.{Gone}
-use Rattle.solving.specs.declared.Sum.{Sum}
-use Rattle.solving.specs.Sums.{summed}
-use Rattle.solving.specs.Sources.{besides, Sourced}
+use Rattle.summing.specs.declared.Sum.{Sum}
+use Rattle.summing.specs.Sums.{summed}
+use Rattle.summing.specs.Sources.{besides, Sourced}
 use Rattle.solving.specs.Outer.{column-of, base-of, spot, chain-of}
-use Rattle.solving.specs.Matching.{Level}
+use Rattle.summing.specs.Matching.{Level}
 use Rattle.solving.specs.Agreeing.{patched, Uses, Holds, Passes, distance, Patchable}
-use Rattle.solving.proofs.FlatLaws.{symbol-at}
+use Rattle.summing.proofs.FlatLaws.{symbol-at}
 use Rattle.solving.proofs.ChangedLaws.{distance-of, distance-none, distance-near, p-f, p-g, left-f, changed-chain}
 
 -- ---- the stripe with its lost columns in place

@@ -1,9 +1,5 @@
-pub mod SumsLaws
-pub mod FlatLaws
-pub mod SourcesLaws
 pub mod OwnLaws
 pub mod StoresLaws
 pub mod SolvedLaws
-pub mod MatchingLaws
 pub mod ChangedLaws
 pub mod AgreeingLaws

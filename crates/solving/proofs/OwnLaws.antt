@@ -14,9 +14,9 @@ use Rattle.xor.specs.Block.{Spanned}
 use Rattle.xor.proofs.Span.{span-same}
 use Rattle.shape.specs.declared.Shape.{Shape}
 use Rattle.shape.specs.Place.{byte}
-use Rattle.solving.specs.declared.Sum.{Sum}
-use Rattle.solving.specs.Sums.{summed, Clear, Summed}
-use Rattle.solving.specs.Sources.{besides, Sourced}
+use Rattle.summing.specs.declared.Sum.{Sum}
+use Rattle.summing.specs.Sums.{summed, Clear, Summed}
+use Rattle.summing.specs.Sources.{besides, Sourced}
 use Rattle.solving.specs.Outer.{Apart}
 
 module _ (sh : Shape) (p side d h b : ℕ) (list : List ℕ) (x : Sum) (c : Sourced sh p side d side h b list x) where

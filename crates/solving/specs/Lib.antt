@@ -1,5 +1,2 @@
-pub mod Sums
-pub mod Sources
 pub mod Outer
-pub mod Matching
 pub mod Agreeing

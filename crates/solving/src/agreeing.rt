@@ -9,10 +9,10 @@ ghost use Rattle.shape.specs.Good.{Good};
 ghost use Rattle.shape.specs.Place.{place};
 ghost use Rattle.solving.specs.Agreeing.{distance, Uses, Holds, Passes, Patchable, Agreed};
 use crate::Gone;
-use crate::matching::matches;
 use crate::outer::below;
-use crate::sources::sources;
 use shape::Shape;
+use summing::matches;
+use summing::sources::sources;
 
 // How far it is to walk upward from column a to column b; m, which is too far, if one of them is no column.
 fn apart(sh: Shape, a: usize, b: usize) -> usize

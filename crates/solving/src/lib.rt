@@ -2,23 +2,11 @@
 use shape::Shape;
 
 mod agreeing;
-mod matching;
 mod outer;
-mod sources;
-mod sums;
 
 pub use agreeing::agree;
 pub use outer::solve_first;
 pub use outer::solve_second;
-
-// What a symbol is the sum of: of the symbol of the stripe at a, of the one at b, which is in the buffer if it was asked for, and of those at the
-// first count places of a list.
-pub struct Sum {
-    pub count: usize,
-    pub a: usize,
-    pub asked: bool,
-    pub b: usize,
-}
 
 // The lost columns of a stripe: the walk leads from first up to second. n stands for no column, and then the walk is too long to ask for anything.
 // In the buffer first's column begins at `one` and second's at `two`.

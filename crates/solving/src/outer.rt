@@ -10,12 +10,12 @@ ghost use Rattle.shape.specs.Good.{Good, size};
 ghost use Rattle.shape.specs.Place.{place, byte};
 ghost use Rattle.shape.specs.Placed.{Stepped};
 ghost use Rattle.shape.specs.Step.{left, right};
-ghost use Rattle.solving.specs.Sources.{besides};
+ghost use Rattle.summing.specs.Sources.{besides};
 ghost use Rattle.solving.specs.Outer.{Solved, Stores, Apart, Ready};
 use crate::Gone;
-use crate::sources::sources;
-use crate::sums::sum_symbol;
 use shape::Shape;
+use summing::sources::sources;
+use summing::sum_symbol;
 
 // The column d to the left of c, modulo n, without a division.
 pub(crate) fn below(n: usize, c: usize, d: usize) -> usize

@@ -1,0 +1,4 @@
+pub mod SumsLaws
+pub mod FlatLaws
+pub mod SourcesLaws
+pub mod MatchingLaws

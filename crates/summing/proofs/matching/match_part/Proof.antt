@@ -1,0 +1,38 @@
+-- `match_part`.
+use mathlib.Core.Path.{refl}
+use mathlib.Core.Logic.{inl, inr}
+use Rattle.xor.proofs.AskedLaws.{told-no}
+use Rattle.summing.proofs.MatchingLaws.{same-level, level-same}
+use borrow.Author.Needs.{needs}
+use Rattle.summing.proofs.matching.match_part.Statement.{statement}
+use Rattle.summing.proofs.matching.match_part.Tie as tie
+
+sum-requires : tie.Need-sum-requires
+sum-requires c κs = search needs
+
+add-same : tie.Need-add-same
+add-same c = search needs
+
+same-requires : tie.Need-same-requires
+same-requires c κs = search needs
+
+returns : tie.Need-returns
+returns c =
+    let a = c .before .before .before .before .before .before .before .args in
+    inl (
+      refl,
+      same-level (a .s .now) (a .out .now) (a .list .now) (a .u .now) (a .x) (a .at) (a .from) (a .len) _ (c .before .before .before .sum .ensures)
+          (c .before .same .ensures .yes (c .if1 .taken)),
+    )
+
+returns-2 : tie.Need-returns-2
+returns-2 c =
+    let a = c .before .before .before .before .before .before .before .args in
+    inr (
+      refl,
+      λ h. told-no (c .before .same .ensures) (c .if1 .left)
+          (level-same (a .s .now) (a .out .now) (a .list .now) (a .u .now) (a .x) (a .at) (a .from) (a .len) _ (c .before .before .before .sum .ensures) h),
+    )
+
+pub match-part-spec : {M : Type 1} → statement M
+match-part-spec = tie.close (tie.spec sum-requires add-same same-requires returns returns-2)
