@@ -1,0 +1,2 @@
+pub mod MarksLaws
+pub mod WordsLaws
