@@ -1,13 +1,8 @@
 -- `bangsorut_fill` is fill with the losses that are named, its answer as a number.
 use mathlib.Core.Path.{sym}
 use borrow.Author.Needs.{needs}
-use Rattle.capi.proofs.bangsorut_fill.Statement.{statement}
-use Rattle.capi.proofs.bangsorut_fill.Tie as tie
-use Rattle.capi.proofs.bangsorut_fill.Reads as reads
-use Rattle.capi.proofs.bangsorut_fill.Lts as lts
-use Rattle.filling.proofs.fill.Reads as fill-reads
-use Rattle.rule.proofs.named.Reads as named-reads
-use Rattle.shape.proofs.Answer.number.Reads as number-reads
+use Rattle.capi.proofs.losses.bangsorut_fill.Statement.{statement}
+use Rattle.capi.proofs.losses.bangsorut_fill.Tie as tie
 
 named-requires : tie.Need-named-requires
 named-requires c κs = search needs

@@ -1,13 +1,8 @@
 -- `bangsorut_rebuild` is rebuild of the losses that are named, its answer as a number.
 use mathlib.Core.Path.{sym}
 use borrow.Author.Needs.{needs}
-use Rattle.capi.proofs.bangsorut_rebuild.Statement.{statement}
-use Rattle.capi.proofs.bangsorut_rebuild.Tie as tie
-use Rattle.capi.proofs.bangsorut_rebuild.Reads as reads
-use Rattle.capi.proofs.bangsorut_rebuild.Lts as lts
-use Rattle.rebuild.proofs.rebuild.Reads as rebuild-reads
-use Rattle.rule.proofs.named.Reads as named-reads
-use Rattle.shape.proofs.Answer.number.Reads as number-reads
+use Rattle.capi.proofs.losses.bangsorut_rebuild.Statement.{statement}
+use Rattle.capi.proofs.losses.bangsorut_rebuild.Tie as tie
 
 named-requires : tie.Need-named-requires
 named-requires c κs = search needs

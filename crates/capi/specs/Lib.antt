@@ -1,0 +1,3 @@
+pub mod Told
+pub mod Lies
+pub mod OneAnswer
