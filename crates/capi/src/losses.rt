@@ -1,15 +1,14 @@
 // The calls that are told which columns are lost, `count` of a and b: rebuild, fill, choose.
 ghost use lib.ListN.{length};
-ghost use Rattle.xor.specs.Asked.{Tells};
 ghost use Rattle.shape.specs.Good.{shape};
-ghost use Rattle.rule.specs.Losses.{named, Lost};
+ghost use Rattle.rule.specs.Losses.{named};
 ghost use Rattle.filling.specs.Fill.{Fill};
 ghost use Rattle.capi.specs.Told.{Numbered, RebuildTold};
 ghost use Rattle.capi.specs.Lies.{ChooseTold};
 use filling::choose;
 use filling::fill;
 use rebuild::rebuild;
-use rule::Losses;
+use rule::is_lost;
 use rule::named;
 use shape::Shape;
 
@@ -50,17 +49,6 @@ pub extern "C" fn bangsorut_fill(
     let lost = named(count, a, b);
     let answer = fill(Shape { m: m, n: n, w: w }, stripe, lost, wanted, buffer);
     answer.number()
-}
-
-// Whether column c is named lost.
-fn is_lost(lost: Losses, c: usize) -> bool
-    ensures { λ r. ⌜ Tells (Lost lost c) r ⌝ }
-{
-    match lost {
-        Losses::None => false,
-        Losses::One(a) => c == a,
-        Losses::Two(a, b) => c == a || c == b,
-    }
 }
 
 // Where the wanted column lies: 0 in the stripe or 1 in the answer buffer, its start there and its length; zeros where fill is refused.

@@ -35,22 +35,22 @@ fn tally(bits: &mut u16, sh: Shape, s: &[u8], wk: Walk, from: usize, len: usize)
     len
 }
 
-// Counts the next bytes of that chain, as many as the longest length that fits, and gives that length.
-fn tally_some(bits: &mut u16, sh: Shape, s: &[u8], wk: Walk, from: usize) -> usize
-    requires { ⌜ (Good sh) × (length (now s) ≡ size sh) × (Walks sh (wk .p) wk) × (from < sh .w) × (now bits ≤ 8 * from) ⌝ }
-    ensures { λ r. ⌜ (1 ≤ r) × (from + r ≤ sh .w) × (Counts sh (now (s .entry)) (wk .p) from (from + r) (now (bits .entry)) (now (bits .exit))) ⌝ }
+// Counts the next bytes of that chain, of which so many are left, as many as the longest length that fits, and gives that length.
+// The longest is tested first: most of a symbol is whole blocks.
+fn tally_some(bits: &mut u16, sh: Shape, s: &[u8], wk: Walk, from: usize, left: usize) -> usize
+    requires { ⌜ (Good sh) × (length (now s) ≡ size sh) × (Walks sh (wk .p) wk) × (from + left ≡ sh .w) × (1 ≤ left) × (now bits ≤ 8 * from) ⌝ }
+    ensures { λ r. ⌜ (1 ≤ r) × (r ≤ left) × (Counts sh (now (s .entry)) (wk .p) from (from + r) (now (bits .entry)) (now (bits .exit))) ⌝ }
 {
-    let left = sh.w - from;
+    if 128 <= left {
+        return tally(bits, sh, s, wk, from, 128);
+    }
     if left < 16 {
         return tally(bits, sh, s, wk, from, 1);
     }
     if left < 64 {
         return tally(bits, sh, s, wk, from, 16);
     }
-    if left < 128 {
-        return tally(bits, sh, s, wk, from, 64);
-    }
-    tally(bits, sh, s, wk, from, 128)
+    tally(bits, sh, s, wk, from, 64)
 }
 
 // How many bits chain p differs by.
@@ -58,12 +58,14 @@ fn chain_bits(sh: Shape, s: &[u8], p: usize) -> u16
     requires { ⌜ (Good sh) × (length (now s) ≡ size sh) × (p < sh .n) ⌝ }
     ensures { λ r. ⌜ Chain sh (now (s .entry)) p r ⌝ }
 {
-    let w = sh.w;
     let wk = sh.walk(p);
     let mut bits = 0u16;
     let mut from = 0;
-    while from < w {
-        from += tally_some(&mut bits, sh, s, wk, from);
+    let mut left = sh.w;
+    while 0 < left {
+        let some = tally_some(&mut bits, sh, s, wk, from, left);
+        from += some;
+        left -= some;
     }
     bits
 }

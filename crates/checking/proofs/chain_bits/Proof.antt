@@ -1,6 +1,6 @@
--- `chain_bits`. The invariant: `bits` are those below byte `from`, at most 8 in each byte. The measure: the bytes to go.
+-- `chain_bits`. The invariant: `bits` are those below byte `from`, at most 8 in each byte, and the rest is left. The measure: the bytes left.
 use mathlib.Core.Path.{_≡_}
-use Prim.Native.Nat.{_-_, _*_, _≤_}
+use Prim.Native.Nat.{_+_, _*_, _≤_}
 use native.Mathlib.Omega.{arith}
 use Rattle.xor.proofs.TotalLaws.{total-none}
 use Rattle.checking.proofs.Counting.{bits, bits-then}
@@ -8,10 +8,10 @@ use Rattle.checking.proofs.chain_bits.Statement.{statement}
 use Rattle.checking.proofs.chain_bits.Tie as tie
 
 abbrev Inv-loop : tie.InvT-loop
-Inv-loop sh s p w wk bits₀ from₀ now from = (from ≤ w) × (now ≡ bits sh s p from) × (now ≤ 8 * from)
+Inv-loop sh s p wk bits₀ from₀ left₀ now from left = (from + left ≡ sh .w) × (now ≡ bits sh s p from) × (now ≤ 8 * from)
 
 abbrev μ-loop : tie.MeasureT-loop
-μ-loop sh s p w wk bits₀ from₀ now from = w - from
+μ-loop sh s p wk bits₀ from₀ left₀ now from left = left
 
 walk-requires : tie.Need-walk-requires Inv-loop μ-loop
 walk-requires c κs = let s = c .before in (s .pre .0, s .pre .2)
@@ -23,10 +23,13 @@ tally-some-requires : tie.Need-tally-some-requires Inv-loop μ-loop
 tally-some-requires c κs =
     let wk = c .before .before .before in
     let s = wk .before .before in
-    (s .pre .0, s .pre .1, wk .walk .ensures .0, omega arith, c .before .before .loop .inv .2)
+    (s .pre .0, s .pre .1, wk .walk .ensures .0, c .before .before .loop .inv .0, omega arith, c .before .before .loop .inv .2)
 
 add-from : tie.Need-add-from Inv-loop μ-loop
 add-from c = omega (arith, c .before .before .before .before .before .before .pre .0 .w-fits .1)
+
+sub-left : tie.Need-sub-left Inv-loop μ-loop
+sub-left c = omega arith
 
 loop-less : tie.Need-loop-less Inv-loop μ-loop
 loop-less c = omega arith
@@ -53,6 +56,7 @@ chain-bits-spec =
     loop-holds
     tally-some-requires
     add-from
+    sub-left
     loop-less
     loop-again
     returns)
