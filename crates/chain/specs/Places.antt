@@ -1,7 +1,7 @@
 -- THE PLACES OF A CHAIN'S SYMBOLS, in a list for the longest chain. Definitions only.
 use mathlib.Core.Path.{_≡_}
 use mathlib.Core.List.{List}
-use Prim.Native.Nat.{ℕ, _-_, _*_, _≤_, _<_}
+use Prim.Native.Nat.{ℕ, _+_, _-_, _*_, _^_, _%_, _≤_, _<_}
 use lib.ListN.{length, getD}
 use Rattle.shape.specs.declared.Shape.{Shape}
 use Rattle.shape.specs.Place.{place}
@@ -16,4 +16,20 @@ pub record Listed (sh : Shape) (p e : ℕ) (list : List ℕ) : Type 0 where
 -- of all heights of chain p, and of its parity symbol at 2m - 2
 pub record Laid (sh : Shape) (p : ℕ) (list : List ℕ) : Type 0 where
   pub information : Listed sh p (sh .m) list
+  pub parity : getD list (2 * sh .m - 2) 0 ≡ place sh 0 p 0
+
+-- the table of a shape: the list of its first chain that does not wrap
+abbrev pub Table : Shape → List ℕ → Type 0
+Table sh list = Laid sh (sh .m - 1) list
+
+-- every entry is further by the same number, modulo 65,536
+pub record Moved (list : List ℕ) (by : ℕ) (to : List ℕ) : Type 0 where
+  pub long : length to ≡ 32
+  pub each : (i : ℕ) → i < 32 → getD to i 0 ≡ (getD list i 0 + by) % 2 ^ 16
+
+-- of chain p the list has where the parity symbol starts, and every symbol before the wrap on its side
+pub record Straight (sh : Shape) (p : ℕ) (list : List ℕ) : Type 0 where
+  pub long : length list ≡ 32
+  pub lefts : (d : ℕ) → 1 ≤ d → d < sh .m → d ≤ p → getD list (2 * d - 2) 0 ≡ place sh d (left (sh .n) p d) 0
+  pub rights : (d : ℕ) → 1 ≤ d → d < sh .m → p + d < sh .n → getD list (2 * d - 1) 0 ≡ place sh d (right (sh .n) p d) 0
   pub parity : getD list (2 * sh .m - 2) 0 ≡ place sh 0 p 0

@@ -7,11 +7,15 @@ ghost use Rattle.xor.specs.Block.{longest, Block};
 ghost use Rattle.shape.specs.Place.{byte};
 ghost use Rattle.shape.specs.Walk.{Ways, Walks};
 ghost use Rattle.rule.specs.Rule.{others, differs};
-ghost use Rattle.shape.specs.Good.{Good};
 ghost use Rattle.chain.specs.Chain.{Part, Ran};
-ghost use Rattle.chain.specs.Places.{Listed, Laid};
 use shape::Shape;
 use shape::Walk;
+
+mod listing;
+
+pub use listing::shifted;
+pub use listing::table;
+pub use listing::wrap;
 
 // Adds into acc the two symbols of each height from start to end - 1, in the columns l and r at height `base` and a column further apart each height.
 fn run(
@@ -73,39 +77,4 @@ pub fn difference(sh: Shape, s: &[u8], wk: Walk, from: usize, len: usize) -> [u8
     xor::add(&mut acc, s, wk.at + from, len);
     below(&mut acc, sh, s, wk, from, len);
     acc
-}
-
-// Notes in the list where the two symbols of each height from start to end - 1 start, in the columns that `run` goes through.
-fn note(list: &mut [u16; 32], sh: Shape, l: usize, r: usize, base: usize, start: usize, end: usize)
-    requires { ⌜ (Good sh) × ((p : ℕ) × Ways sh p l r base start end) × (length (now list) ≡ 32) ⌝ }
-    ensures { λ _. ⌜ ((p : ℕ) → Ways sh p l r base start end → Listed sh p start (now (list .entry)) → Listed sh p end (now (list .exit))) × (length (now (list .exit)) ≡ 32) ⌝ }
-{
-    let mut d = start;
-    while d < end {
-        let further = d - base;
-        list[2 * d - 2] = sh.place(d, l - further) as u16;
-        list[2 * d - 1] = sh.place(d, r + further) as u16;
-        d += 1;
-    }
-}
-
-// Notes in the list where the symbols of the chain that wk walks start, the parity symbol last.
-fn lay(list: &mut [u16; 32], sh: Shape, wk: Walk)
-    requires { ⌜ (Good sh) × (Walks sh (wk .p) wk) × (length (now list) ≡ 32) ⌝ }
-    ensures { λ _. ⌜ Laid sh (wk .p) (now (list .exit)) ⌝ }
-{
-    note(list, sh, wk.p, wk.p, 0, 1, wk.end);
-    note(list, sh, wk.l, wk.r, wk.end, wk.end, wk.top);
-    let last = 2 * wk.top;
-    list[last - 2] = wk.x as u16;
-    list[last - 1] = wk.y as u16;
-    list[last] = wk.at as u16;
-}
-
-// Notes in the list where the symbols of chain p start, the parity symbol last; whoever calls it has a good shape and a chain of it.
-pub fn places(list: &mut [u16; 32], sh: Shape, p: usize)
-    requires { ⌜ (Good sh) × (p < sh .n) × (length (now list) ≡ 32) ⌝ }
-    ensures { λ _. ⌜ Laid sh p (now (list .exit)) ⌝ }
-{
-    lay(list, sh, sh.walk(p));
 }

@@ -3,6 +3,7 @@ ghost use mathlib.Core.Path.{_≡_};
 ghost use Prim.Native.Nat.{ℕ, _≤_};
 ghost use lib.ListN.{length};
 ghost use Rattle.shape.specs.Answers.{number, First};
+ghost use Rattle.chain.specs.Places.{Table};
 ghost use Rattle.solving.specs.Outer.{Solved, Stores, Ready};
 ghost use Rattle.filling.specs.Fill.{fill-table, Fill};
 ghost use Rattle.filling.specs.Filling.{SideOf, narrowed, Fillable, ColumnIn};
@@ -77,14 +78,14 @@ fn narrow(x: Gone, side: usize) -> Gone
 }
 
 // Solves a side's symbol of height d.
-fn solve(s: &[u8], out: &mut [u8], list: &mut [u16; 32], x: Gone, side: usize, d: usize)
-    requires { ⌜ (Ready x side d (now s) (now out)) × (length (now list) ≡ 32) ⌝ }
-    ensures { λ _. ⌜ (length (now (list .exit)) ≡ 32) × (length (now (out .exit)) ≡ length (now (out .entry))) × ((v : ℕ → ℕ → ℕ → ℕ) → Solved x (now (s .entry)) v → Stores x v side d (now (out .entry)) (now (out .exit))) ⌝ }
+fn solve(s: &[u8], out: &mut [u8], table: &[u16; 32], x: Gone, side: usize, d: usize)
+    requires { ⌜ (Ready x side d (now s) (now out)) × (Table (x .shape) (now table)) ⌝ }
+    ensures { λ _. ⌜ (length (now (out .exit)) ≡ length (now (out .entry))) × ((v : ℕ → ℕ → ℕ → ℕ) → Solved x (now (s .entry)) v → Stores x v side d (now (out .entry)) (now (out .exit))) ⌝ }
 {
     if side == 0 {
-        solve_first(s, out, list, x, d);
+        solve_first(s, out, table, x, d);
     } else {
-        solve_second(s, out, list, x, d);
+        solve_second(s, out, table, x, d);
     }
 }
 
@@ -93,11 +94,11 @@ fn fill_column(s: &[u8], out: &mut [u8], x: Gone, side: usize)
     requires { ⌜ Fillable x side (now s) (now out) ⌝ }
     ensures { λ _. ⌜ (length (now (out .exit)) ≡ length (now (out .entry))) × ((v : ℕ → ℕ → ℕ → ℕ) → Solved x (now (s .entry)) v → ColumnIn x v side (now (out .entry)) (now (out .exit))) ⌝ }
 {
-    let mut list = [0u16; 32];
+    let table = chain::table(x.shape);
     let mut left = lesser(2 * x.walk, x.shape.m);
     while 0 < left {
         left -= 1;
-        solve(s, out, &mut list, x, side, left);
+        solve(s, out, &table, x, side, left);
     }
 }
 

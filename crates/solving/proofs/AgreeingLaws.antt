@@ -1,5 +1,5 @@
 -- Laws of agreement: which chains are used, and what it is to compare a chain that is not.
--- To cite: patched-first, patched-second, patched-else; uses?, uses-first, uses-second, uses-near; asked-pos, agrees-first, agrees-parity; one-fits, one-small, two-small, asked-fits; passed-next.
+-- To cite: patched-first, patched-second, patched-else; uses?, uses-first, uses-second, uses-near; back-uses, uses-back; asked-pos, agrees-tells, even-tells; passed-next.
 use mathlib.Core.Path.{_≡_, refl, sym, ap, ap₂, _∙_, subst}
 use mathlib.Core.Logic.{_≢_, Ne·symm, _⊎_, inl, inr, ⊎-elim}
 use mathlib.Core.Bool.{Bool, true, cond}
@@ -18,7 +18,7 @@ use Rattle.shape.specs.Place.{place, byte}
 use Rattle.shape.specs.Step.{left, right}
 use Rattle.shape.proofs.GoodLaws.{good-m, good-room}
 use Rattle.shape.proofs.StepLaws.{reach₂, left-zero, left-reach, left-is, right-reach, right-is}
-use Rattle.rule.specs.Rule.{chain}
+use Rattle.rule.specs.Rule.{others, chain}
 use Rattle.rule.specs.Outer.{walk}
 use Rattle.rule.proofs.OrderLaws.{walk-lt, walk-pos, walk-reach}
 use Rattle.solving.specs.declared.Gone.{Gone}
@@ -27,9 +27,10 @@ use Rattle.summing.specs.Sums.{summed}
 use Rattle.summing.specs.Sources.{besides, Sourced}
 use Rattle.solving.specs.Outer.{column-of, base-of, spot, chain-of}
 use Rattle.summing.specs.Matching.{Level}
-use Rattle.solving.specs.Agreeing.{patched, Uses, Holds, Passes, distance, Patchable}
+use Rattle.solving.specs.Holding.{Even}
+use Rattle.solving.specs.Agreeing.{patched, Uses, Holds, Passes, distance, Back, Patchable}
 use Rattle.summing.proofs.FlatLaws.{symbol-at}
-use Rattle.solving.proofs.ChangedLaws.{distance-of, distance-none, distance-near, p-f, p-g, left-f, changed-chain}
+use Rattle.solving.proofs.ChangedLaws.{distance-of, distance-none, distance-near, near-back, back-near, p-f, p-g, left-f, changed-chain, unchanged-chain}
 
 -- ---- the stripe with its lost columns in place
 
@@ -99,6 +100,14 @@ module _ (g : Gone) (good : Good (g .shape)) (p : ℕ) (hp : p < g .shape .n) wh
       ))
   uses-near (suc (suc i), d, hs, hc, hd, e) = absurd (omega arith)
 
+  -- by the ways the other way round
+  pub back-uses : Back (g .shape) (distance (g .shape) (g .first) p) ⊎ Back (g .shape) (distance (g .shape) p (g .second)) → Uses g p
+  back-uses (inl h) = uses-first (back-near (g .shape) good p (g .first) h)
+  back-uses (inr h) = uses-second (back-near (g .shape) good (g .second) p h)
+
+  pub uses-back : Uses g p → Back (g .shape) (distance (g .shape) (g .first) p) ⊎ Back (g .shape) (distance (g .shape) p (g .second))
+  uses-back u = ⊎-elim (λ h. inl (near-back (g .shape) good p (g .first) h)) (λ h. inr (near-back (g .shape) good (g .second) p h)) (uses-near u)
+
   pub uses? : Dec (Uses g p)
   uses? = at (decLt (distance (g .shape) p (g .first)) (g .shape .m)) (decLt (distance (g .shape) (g .second) p) (g .shape .m))
     where
@@ -165,7 +174,7 @@ module _ (g : Gone) (good : Good (g .shape)) (p : ℕ) (hp : p < g .shape .n) wh
         unfolding base-of
         b-is = rw (sym eh) eb
 
-        pub agrees-first : (d : ℕ) → d ≡ distance (g .shape) (g .first) p → d < g .shape .m → Sourced (g .shape) p 1 d 0 h′ b list x
+        agrees-first : (d : ℕ) → d ≡ distance (g .shape) (g .first) p → d < g .shape .m → Sourced (g .shape) p 1 d 0 h′ b list x
             → at ≡ g .one + place (g .shape) d 0 0 → Tells (Level s out list x out at 0 (g .shape .w)) r → Tells (Holds g s out p) r
         unfolding base-of
         agrees-first d ed hd from ea tells =
@@ -173,7 +182,7 @@ module _ (g : Gone) (good : Good (g .shape)) (p : ℕ) (hp : p < g .shape .n) wh
             ap (patched g s out t d) (ap (left (g .shape .n) p) ed ∙ left-f (g .shape) good p (g .first) (g .second) hp off-first off-second (omega (arith, ed)))
             ∙ patched-first g s out d t ∙ ap (λ (i : ℕ). getD out (i + t) 0) (sym ea)) tells
 
-        pub agrees-parity : g .shape .m ≤ distance (g .shape) (g .first) p → Sourced (g .shape) p 1 0 0 h′ b list x
+        agrees-parity : g .shape .m ≤ distance (g .shape) (g .first) p → Sourced (g .shape) p 1 0 0 h′ b list x
             → at ≡ place (g .shape) 0 p 0 → Tells (Level s out list x s at 0 (g .shape .w)) r → Tells (Holds g s out p) r
         agrees-parity away from ea tells =
             level-holds b b-is list x 0 (inr (away, refl)) (rw (sym eh) from) s at r (λ t ht.
@@ -181,27 +190,37 @@ module _ (g : Gone) (good : Good (g .shape)) (p : ℕ) (hp : p < g .shape .n) wh
             ∙ patched-else g s out 0 t p (p-f (g .shape) good p (g .first) (g .second) hp off-first off-second) (p-g (g .shape) good p (g .first) (g .second) hp off-first off-second)
             ∙ sym (symbol-at (g .shape) s 0 p t ea)) tells
 
--- ---- where the symbols stand in the buffer
+        -- e is the height of the symbol that is compared, u the slice that it is in
+        pub agrees-tells : (d e : ℕ) (u : List ℕ) → d ≡ distance (g .shape) (g .first) p → e ≡ cond (ltb d (g .shape .m)) d 0 → u ≡ cond (ltb d (g .shape .m)) out s
+            → at ≡ cond (ltb d (g .shape .m)) (g .one + place (g .shape) d 0 0) (place (g .shape) 0 p 0)
+            → Sourced (g .shape) p 1 e 0 h′ b list x → Tells (Level s out list x u at 0 (g .shape .w)) r → Tells (Holds g s out p) r
+        agrees-tells d e u ed ee eu ea from tells = on (decLt d (g .shape .m))
+          where
+            on : Dec (d < g .shape .m) → Tells (Holds g s out p) r
+            on (yes l) =
+                let t = lt-ltb d (g .shape .m) l in
+                let e₁ : e ≡ d = ee ∙ rw t refl in
+                let u₁ : u ≡ out = eu ∙ rw t refl in
+                agrees-first d ed l (rw e₁ at from) (ea ∙ rw t refl) (rw u₁ at tells)
+            on (no l) =
+                let t = le-ltb d (g .shape .m) (omega arith) in
+                let e₁ : e ≡ 0 = ee ∙ rw t refl in
+                let u₁ : u ≡ s = eu ∙ rw t refl in
+                agrees-parity (omega (arith, ed)) (rw e₁ at from) (ea ∙ rw t refl) (rw u₁ at tells)
 
-module _ (g : Gone) (s out : List ℕ) (ok : Patchable g s out) where
-  pub one-fits : (d at : ℕ) → d < g .shape .m → at ≡ g .one + place (g .shape) d 0 0 → at + g .shape .w ≤ length out
-  unfolding base-of
-  one-fits d at hd e = omega (arith, ok .room 0 d (omega arith) hd .0)
+      as-it-stands : g .shape .m ≤ distance (g .shape) (g .first) p → g .shape .m ≤ h → (t : ℕ)
+          → chain (g .shape .m) (g .shape .n) (patched g s out t) p ≡ chain (g .shape .m) (g .shape .n) (byte (g .shape) s t) p
+      as-it-stands away off t =
+          unchanged-chain (g .shape) good p (g .first) (g .second) hp off-first off-second (ok .unlike) (byte (g .shape) s t) (patched g s out t)
+          (λ d c hd hc u v. patched-else g s out d t c u v) away off
 
-  pub two-small : g .two ≤ 262144
-  unfolding base-of
-  two-small = omega (arith, ok .room 1 0 (omega arith) (good-m (g .shape) (ok .good)) .1)
-
-  pub one-small : g .one ≤ 262144
-  unfolding base-of
-  one-small = omega (arith, ok .room 0 0 (omega arith) (good-m (g .shape) (ok .good)) .1)
-
-  pub asked-fits : (h b : ℕ) → b ≡ cond (ltb h (g .shape .m)) (g .two + place (g .shape) h 0 0) 0 → h < g .shape .m
-      → (b + g .shape .w ≤ length out) × (b + g .shape .w ≤ 262144)
-  unfolding base-of
-  asked-fits h b e l =
-      let f : b ≡ g .two + place (g .shape) h 0 0 = e ∙ rw (lt-ltb h (g .shape .m) l) refl in
-      let z = ok .room 1 h (omega arith) l in (omega (arith, z .0), omega (arith, z .1))
+      -- neither first nor second is near: the chain holds if it does in the stripe
+      pub even-tells : (r : Bool) → g .shape .m ≤ distance (g .shape) (g .first) p → g .shape .m ≤ h → Tells (Even (g .shape) s p 0 (g .shape .w)) r → Tells (Holds g s out p) r
+      unfolding chain
+      even-tells r away off tells = record {
+        yes = λ k t ht. as-it-stands away off t ∙ ⊕-same _ _ (sym (tells .yes k t (omega arith) ht));
+        no = λ k. tells .no (λ t lo ht. sym (⊕-eq _ _ (sym (as-it-stands away off t) ∙ k t ht)));
+      }
 
 -- one chain after another
 pub passed-next : (g : Gone) (s out : List ℕ) (p : ℕ) → ((q : ℕ) → q < p → Passes g s out q) → Passes g s out p → (q : ℕ) → q < p + 1 → Passes g s out q

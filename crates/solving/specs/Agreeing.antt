@@ -1,9 +1,9 @@
 -- AGREEMENT (document 01): whether the chains from which no lost symbol is solved hold, with the lost columns in place. Definitions only.
 use mathlib.Core.Path.{_≡_}
-use mathlib.Core.Logic.{_≢_}
+use mathlib.Core.Logic.{_≢_, _⊎_}
 use mathlib.Core.Bool.{cond}
 use mathlib.Core.List.{List}
-use Prim.Native.Nat.{ℕ, _+_, _≤_, _<_}
+use Prim.Native.Nat.{ℕ, _+_, _-_, _≤_, _<_}
 use lib.Dec.{eqb, ltb}
 use lib.ListN.{length, getD}
 use Rattle.shape.specs.declared.Shape.{Shape}
@@ -39,6 +39,10 @@ Agreed g s out = (p : ℕ) → p < g .shape .n → Passes g s out p
 -- how far it is to walk upward from column a to column b; m, which is too far, where one of them is no column
 unfoldable pub distance : Shape → ℕ → ℕ → ℕ
 distance sh a b = cond (ltb a (sh .n)) (cond (ltb b (sh .n)) (walk (sh .n) a b) (sh .m)) (sh .m)
+
+-- a way of e columns is none, or fewer than m columns lead back
+abbrev pub Back : Shape → ℕ → Type 0
+Back sh e = (e ≡ 0) ⊎ (sh .n - sh .m < e)
 
 -- the lost columns of the stripe s, which are not the same, have their room in the buffer `out`
 pub record Patchable (g : Gone) (s out : List ℕ) : Type 0 where

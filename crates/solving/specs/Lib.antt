@@ -1,2 +1,3 @@
 pub mod Outer
+pub mod Holding
 pub mod Agreeing

@@ -2,6 +2,7 @@
 use shape::Shape;
 
 mod agreeing;
+mod holding;
 mod outer;
 
 pub use agreeing::agree;

@@ -10,6 +10,7 @@ ghost use Rattle.shape.specs.Good.{Good, size};
 ghost use Rattle.shape.specs.Place.{place, byte};
 ghost use Rattle.shape.specs.Placed.{Stepped};
 ghost use Rattle.shape.specs.Step.{left, right};
+ghost use Rattle.chain.specs.Places.{Table};
 ghost use Rattle.summing.specs.Sources.{besides};
 ghost use Rattle.solving.specs.Outer.{Solved, Stores, Apart, Ready};
 use crate::Gone;
@@ -44,7 +45,7 @@ fn above(n: usize, c: usize, d: usize) -> usize
 fn own(
     s: &[u8],
     out: &mut [u8],
-    list: &mut [u16; 32],
+    table: &[u16; 32],
     sh: Shape,
     p: usize,
     side: usize,
@@ -53,44 +54,45 @@ fn own(
     b: usize,
     at: usize,
 )
-    requires { ⌜ (Good sh) × (length (now s) ≡ size sh) × (p < sh .n) × (side ≤ 1) × (d < sh .m) × (d < h) × (length (now list) ≡ 32) × (at + sh .w ≤ length (now out)) × (h < sh .m → (b + sh .w ≤ length (now out)) × (b + sh .w ≤ 262144) × Apart at b (sh .w)) ⌝ }
-    ensures { λ _. ⌜ (length (now (list .exit)) ≡ 32) × (Spanned (λ t. besides (sh .m) (sh .n) (byte sh (now (s .entry)) t) p side d side h ⊕ cond (ltb h (sh .m)) (getD (now (out .entry)) (b + t) 0) 0) (now (out .entry)) (now (out .exit)) at (sh .w)) ⌝ }
+    requires { ⌜ (Good sh) × (length (now s) ≡ size sh) × (p < sh .n) × (side ≤ 1) × (d < sh .m) × (d < h) × (Table sh (now table)) × (at + sh .w ≤ length (now out)) × (h < sh .m → (b + sh .w ≤ length (now out)) × (b + sh .w ≤ 262144) × Apart at b (sh .w)) ⌝ }
+    ensures { λ _. ⌜ Spanned (λ t. besides (sh .m) (sh .n) (byte sh (now (s .entry)) t) p side d side h ⊕ cond (ltb h (sh .m)) (getD (now (out .entry)) (b + t) 0) 0) (now (out .entry)) (now (out .exit)) at (sh .w) ⌝ }
 {
-    chain::places(list, sh, p);
-    let from = sources(list, sh, p, side, d, side, h, b);
-    sum_symbol(sh.w, s, out, list, from, at);
+    let mut list = chain::shifted(table, sh, p);
+    chain::wrap(&mut list, sh, p);
+    let from = sources(&mut list, sh, p, side, d, side, h, b);
+    sum_symbol(sh.w, s, out, &list, from, at);
 }
 
 // Stores first's symbol of height d, and before it those above it that it asks for.
-pub fn solve_first(s: &[u8], out: &mut [u8], list: &mut [u16; 32], x: Gone, d: usize)
-    requires { ⌜ (Ready x 0 d (now s) (now out)) × (length (now list) ≡ 32) ⌝ }
-    ensures { λ _. ⌜ (length (now (list .exit)) ≡ 32) × (length (now (out .exit)) ≡ length (now (out .entry))) × ((v : ℕ → ℕ → ℕ → ℕ) → Solved x (now (s .entry)) v → Stores x v 0 d (now (out .entry)) (now (out .exit))) ⌝ }
+pub fn solve_first(s: &[u8], out: &mut [u8], table: &[u16; 32], x: Gone, d: usize)
+    requires { ⌜ (Ready x 0 d (now s) (now out)) × (Table (x .shape) (now table)) ⌝ }
+    ensures { λ _. ⌜ (length (now (out .exit)) ≡ length (now (out .entry))) × ((v : ℕ → ℕ → ℕ → ℕ) → Solved x (now (s .entry)) v → Stores x v 0 d (now (out .entry)) (now (out .exit))) ⌝ }
 {
     let sh = x.shape;
     let h = d + x.walk;
     let p = below(sh.n, x.first, d);
     let at = x.one + sh.place(d, 0);
     if h < sh.m {
-        solve_second(s, out, list, x, h);
-        own(s, out, list, sh, p, 0, d, h, x.two + sh.place(h, 0), at);
+        solve_second(s, out, table, x, h);
+        own(s, out, table, sh, p, 0, d, h, x.two + sh.place(h, 0), at);
     } else {
-        own(s, out, list, sh, p, 0, d, h, 0, at);
+        own(s, out, table, sh, p, 0, d, h, 0, at);
     }
 }
 
 // Stores second's symbol of height d, and before it those above it that it asks for.
-pub fn solve_second(s: &[u8], out: &mut [u8], list: &mut [u16; 32], x: Gone, d: usize)
-    requires { ⌜ (Ready x 1 d (now s) (now out)) × (length (now list) ≡ 32) ⌝ }
-    ensures { λ _. ⌜ (length (now (list .exit)) ≡ 32) × (length (now (out .exit)) ≡ length (now (out .entry))) × ((v : ℕ → ℕ → ℕ → ℕ) → Solved x (now (s .entry)) v → Stores x v 1 d (now (out .entry)) (now (out .exit))) ⌝ }
+pub fn solve_second(s: &[u8], out: &mut [u8], table: &[u16; 32], x: Gone, d: usize)
+    requires { ⌜ (Ready x 1 d (now s) (now out)) × (Table (x .shape) (now table)) ⌝ }
+    ensures { λ _. ⌜ (length (now (out .exit)) ≡ length (now (out .entry))) × ((v : ℕ → ℕ → ℕ → ℕ) → Solved x (now (s .entry)) v → Stores x v 1 d (now (out .entry)) (now (out .exit))) ⌝ }
 {
     let sh = x.shape;
     let h = d + x.walk;
     let p = above(sh.n, x.second, d);
     let at = x.two + sh.place(d, 0);
     if h < sh.m {
-        solve_first(s, out, list, x, h);
-        own(s, out, list, sh, p, 1, d, h, x.one + sh.place(h, 0), at);
+        solve_first(s, out, table, x, h);
+        own(s, out, table, sh, p, 1, d, h, x.one + sh.place(h, 0), at);
     } else {
-        own(s, out, list, sh, p, 1, d, h, 0, at);
+        own(s, out, table, sh, p, 1, d, h, 0, at);
     }
 }

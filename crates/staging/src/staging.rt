@@ -2,6 +2,7 @@
 ghost use mathlib.Core.Path.{_≡_};
 ghost use Prim.Native.Nat.{ℕ, _≤_, _<_};
 ghost use lib.ListN.{length};
+ghost use Rattle.chain.specs.Places.{Table};
 ghost use Rattle.solving.specs.Outer.{Solved};
 ghost use Rattle.staging.specs.Staging.{Stageable, Staged, SolvesIf, Lesser};
 use solving::Gone;
@@ -19,22 +20,22 @@ pub fn lesser(a: usize, b: usize) -> usize
 }
 
 // Solves first's symbol of height d, if there is a first.
-fn first_if_lost(s: &[u8], out: &mut [u8], list: &mut [u16; 32], x: Gone, d: usize)
-    requires { ⌜ (Stageable x (now s) (now out)) × (d < x .shape .m) × (length (now list) ≡ 32) ⌝ }
-    ensures { λ _. ⌜ (length (now (list .exit)) ≡ 32) × (length (now (out .exit)) ≡ length (now (out .entry))) × ((v : ℕ → ℕ → ℕ → ℕ) → Solved x (now (s .entry)) v → SolvesIf x v 0 d (now (out .entry)) (now (out .exit))) ⌝ }
+fn first_if_lost(s: &[u8], out: &mut [u8], table: &[u16; 32], x: Gone, d: usize)
+    requires { ⌜ (Stageable x (now s) (now out)) × (d < x .shape .m) × (Table (x .shape) (now table)) ⌝ }
+    ensures { λ _. ⌜ (length (now (out .exit)) ≡ length (now (out .entry))) × ((v : ℕ → ℕ → ℕ → ℕ) → Solved x (now (s .entry)) v → SolvesIf x v 0 d (now (out .entry)) (now (out .exit))) ⌝ }
 {
     if x.first < x.shape.n {
-        solve_first(s, out, list, x, d);
+        solve_first(s, out, table, x, d);
     }
 }
 
 // Solves second's symbol of height d, if there is a second.
-fn second_if_lost(s: &[u8], out: &mut [u8], list: &mut [u16; 32], x: Gone, d: usize)
-    requires { ⌜ (Stageable x (now s) (now out)) × (d < x .shape .m) × (length (now list) ≡ 32) ⌝ }
-    ensures { λ _. ⌜ (length (now (list .exit)) ≡ 32) × (length (now (out .exit)) ≡ length (now (out .entry))) × ((v : ℕ → ℕ → ℕ → ℕ) → Solved x (now (s .entry)) v → SolvesIf x v 1 d (now (out .entry)) (now (out .exit))) ⌝ }
+fn second_if_lost(s: &[u8], out: &mut [u8], table: &[u16; 32], x: Gone, d: usize)
+    requires { ⌜ (Stageable x (now s) (now out)) × (d < x .shape .m) × (Table (x .shape) (now table)) ⌝ }
+    ensures { λ _. ⌜ (length (now (out .exit)) ≡ length (now (out .entry))) × ((v : ℕ → ℕ → ℕ → ℕ) → Solved x (now (s .entry)) v → SolvesIf x v 1 d (now (out .entry)) (now (out .exit))) ⌝ }
 {
     if x.second < x.shape.n {
-        solve_second(s, out, list, x, d);
+        solve_second(s, out, table, x, d);
     }
 }
 
@@ -43,11 +44,11 @@ pub fn stage(s: &[u8], out: &mut [u8], x: Gone)
     requires { ⌜ Stageable x (now s) (now out) ⌝ }
     ensures { λ _. ⌜ (length (now (out .exit)) ≡ length (now (out .entry))) × ((v : ℕ → ℕ → ℕ → ℕ) → Solved x (now (s .entry)) v → Staged x v (now (out .exit))) ⌝ }
 {
-    let mut list = [0u16; 32];
+    let table = chain::table(x.shape);
     let mut left = lesser(x.walk, x.shape.m);
     while 0 < left {
         left -= 1;
-        first_if_lost(s, out, &mut list, x, left);
-        second_if_lost(s, out, &mut list, x, left);
+        first_if_lost(s, out, &table, x, left);
+        second_if_lost(s, out, &table, x, left);
     }
 }

@@ -1,6 +1,7 @@
 // Sums of symbols over a list of places: what a lost symbol is solved from, the sum stored, and a symbol compared with it.
 // As in encode, a symbol goes a block at a time and in registers.
 mod matching;
+// Public itself, since its function has its name.
 pub mod sources;
 mod sums;
 

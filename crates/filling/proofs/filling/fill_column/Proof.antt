@@ -11,27 +11,29 @@ use Rattle.filling.proofs.filling.fill_column.Statement.{statement}
 use Rattle.filling.proofs.filling.fill_column.Tie as tie
 
 abbrev Inv-loop : tie.InvT-loop
-Inv-loop s out₀ x side list₀ left₀ out list left =
+Inv-loop s out₀ x side table left₀ out left =
     Fillable x side s out
     × (left ≤ x .shape .m)
-    × (length list ≡ 32)
     × (length out ≡ length out₀)
     × ((v : ℕ → ℕ → ℕ → ℕ) → Solved x s v → StandFrom x v side left out × Untouched x out₀ out)
 
 abbrev μ-loop : tie.MeasureT-loop
-μ-loop s out₀ x side list₀ left₀ out list left = left
+μ-loop s out₀ x side table left₀ out left = left
+
+table-requires : tie.Need-table-requires Inv-loop μ-loop
+table-requires c κs = search needs
 
 mul-lesser : tie.Need-mul-lesser Inv-loop μ-loop
-mul-lesser c = omega (arith, c .before .before .before .pre .short)
+mul-lesser c = omega (arith, c .before .before .before .before .pre .short)
 
 lesser-requires : tie.Need-lesser-requires Inv-loop μ-loop
 lesser-requires c κs = search needs
 
 loop-holds : tie.Need-loop-holds Inv-loop μ-loop
 loop-holds c =
-    let s = c .before .before .before .before in
+    let s = c .before .before .before .before .before in
     let l = c .lesser .ensures in
-    (s .pre, l .1, refl, refl, λ v k. (stand-none _ _ _ _ (s .pre) v _ (l .2), λ i lo. refl))
+    (s .pre, l .1, refl, λ v k. (stand-none _ _ _ _ (s .pre) v _ (l .2), λ i lo. refl))
 
 sub-left : tie.Need-sub-left Inv-loop μ-loop
 sub-left c = omega arith
@@ -39,7 +41,7 @@ sub-left c = omega arith
 solve-requires : tie.Need-solve-requires Inv-loop μ-loop
 solve-requires c κs =
     let i = c .before .before .before .loop .inv in
-    (fillable-ready _ _ _ _ (i .0) _ (omega arith), i .2)
+    (fillable-ready _ _ _ _ (i .0) _ (omega arith), c .before .before .before .before .before .before .table .ensures)
 
 loop-less : tie.Need-loop-less Inv-loop μ-loop
 loop-less c = omega arith
@@ -48,23 +50,22 @@ loop-again : tie.Need-loop-again Inv-loop μ-loop
 loop-again c =
     let f = c .before .before .solve .ensures in
     let i = c .before .before .before .before .before .before .loop .inv in (
-      fillable-like _ _ _ _ _ (f .1) (i .0),
+      fillable-like _ _ _ _ _ (f .0) (i .0),
       omega arith,
-      f .0,
-      f .1 ∙ i .3,
+      f .0 ∙ i .2,
       λ v k. (
-        stand-step _ _ _ _ (i .0) v _ _ (omega arith) (f .2 v k) _ (omega arith) (i .4 v k .0),
-        λ j lo. stores-rest _ _ _ _ (i .0) v _ _ (omega arith) (f .2 v k) j lo ∙ i .4 v k .1 j lo,
+        stand-step _ _ _ _ (i .0) v _ _ (omega arith) (f .1 v k) _ (omega arith) (i .3 v k .0),
+        λ j lo. stores-rest _ _ _ _ (i .0) v _ _ (omega arith) (f .1 v k) j lo ∙ i .3 v k .1 j lo,
       ),
     )
 
 same-length : tie.Need-same-length Inv-loop μ-loop
-same-length c = c .before .loop .inv .3
+same-length c = c .before .loop .inv .2
 
 returns : tie.Need-returns Inv-loop μ-loop
 returns c =
     let i = c .before .loop .inv in
-    (i .3, λ v k. record { front = λ d hd. i .4 v k .0 d hd (omega arith); rest = i .4 v k .1 })
+    (i .2, λ v k. record { front = λ d hd. i .3 v k .0 d hd (omega arith); rest = i .3 v k .1 })
 
 pub fill-column-spec : {M : Type 1} → statement M
 fill-column-spec =
@@ -72,6 +73,7 @@ fill-column-spec =
     (tie.spec
     Inv-loop
     μ-loop
+    table-requires
     mul-lesser
     lesser-requires
     loop-holds

@@ -18,8 +18,8 @@ sided x v side i d out out′ e = subst (λ (z : ℕ). Stores x v z d out out′
 
 solve-first-requires : tie.Need-solve-first-requires
 solve-first-requires c κs =
-    let s = c .before .before .before .before .before in
-    (numbered _ _ 0 _ _ _ (c .before .before .if1 .taken) (s .pre .0), s .pre .1)
+    let s = c .before .before .before .before in
+    (numbered _ _ 0 _ _ _ (c .before .if1 .taken) (s .pre .0), s .pre .1)
 
 -- a side that is not 0 is 1
 second : (c : tie.Else1) → c .before .before .before .args .side ≡ 1
@@ -27,8 +27,8 @@ second c = omega (arith, c .before .before .before .pre .0 .side-is)
 
 solve-second-requires : tie.Need-solve-second-requires
 solve-second-requires c κs =
-    let s = c .before .before .before .before .before in
-    (numbered _ _ 1 _ _ _ (second (c .before .before)) (s .pre .0), s .pre .1)
+    let s = c .before .before .before .before in
+    (numbered _ _ 1 _ _ _ (second (c .before)) (s .pre .0), s .pre .1)
 
 same-length : tie.Need-same-length
 same-length c = search needs
@@ -36,7 +36,7 @@ same-length c = search needs
 returns : tie.Need-returns
 returns c =
     let f = c .before .before .solve-first .ensures in
-    (f .0, f .1, λ v k. sided _ v _ 0 _ _ _ (c .before .before .before .before .before .if1 .taken) (f .2 v k))
+    (f .0, λ v k. sided _ v _ 0 _ _ _ (c .before .before .before .before .if1 .taken) (f .1 v k))
 
 same-length-2 : tie.Need-same-length-2
 same-length-2 c = search needs
@@ -44,7 +44,7 @@ same-length-2 c = search needs
 returns-2 : tie.Need-returns-2
 returns-2 c =
     let f = c .before .before .solve-second .ensures in
-    (f .0, f .1, λ v k. sided _ v _ 1 _ _ _ (second (c .before .before .before .before .before)) (f .2 v k))
+    (f .0, λ v k. sided _ v _ 1 _ _ _ (second (c .before .before .before .before)) (f .1 v k))
 
 pub solve-spec : {M : Type 1} → statement M
 solve-spec =

@@ -1,9 +1,6 @@
 -- `agree`. The invariant: the chains before p pass. The measure: the chains to go.
-use mathlib.Core.Path.{_≡_, refl, subst}
-use Prim.Native.Nat.{ℕ, _+_, _-_, _≤_, _<_}
+use Prim.Native.Nat.{ℕ, _-_, _≤_, _<_}
 use native.Mathlib.Omega.{arith}
-use native.Mathlib.Decide.{decLt}
-use lib.ListN.{length}
 use borrow.Author.Tests.{not-true, not-false}
 use Rattle.xor.proofs.AskedLaws.{tells-true, tells-false, told-no}
 use Rattle.solving.specs.Agreeing.{Passes}
@@ -12,34 +9,37 @@ use Rattle.solving.proofs.agreeing.agree.Statement.{statement}
 use Rattle.solving.proofs.agreeing.agree.Tie as tie
 
 abbrev Inv-loop : tie.InvT-loop
-Inv-loop s out x list₀ p₀ list p = (p ≤ x .shape .n) × (length list ≡ 32) × ((q : ℕ) → q < p → Passes x s out q)
+Inv-loop s out x table p₀ p = (p ≤ x .shape .n) × ((q : ℕ) → q < p → Passes x s out q)
 
 abbrev μ-loop : tie.MeasureT-loop
-μ-loop s out x list₀ p₀ list p = x .shape .n - p
+μ-loop s out x table p₀ p = x .shape .n - p
+
+table-requires : tie.Need-table-requires Inv-loop μ-loop
+table-requires c κs = c .before .before .pre .good
 
 loop-holds : tie.Need-loop-holds Inv-loop μ-loop
-loop-holds c = (omega arith, refl, λ q h. absurd (omega arith))
+loop-holds c = (omega arith, λ q h. absurd (omega arith))
 
 passes-requires : tie.Need-passes-requires Inv-loop μ-loop
-passes-requires c κs = let at = c .before .before .before in (at .before .before .before .pre, omega arith, at .loop .inv .1)
+passes-requires c κs = (c .before .before .before .before .before .before .before .pre, omega arith, c .before .before .before .before .table .ensures)
 
 returns : tie.Need-returns Inv-loop μ-loop
-returns c = tells-false (λ all. told-no (c .before .passes .ensures .1) (not-true _ (c .if2 .taken)) (all (c .before .before .before .before .before .loop .p) (c .before .before .before .if1 .taken)))
+returns c = tells-false (λ all. told-no (c .before .passes .ensures) (not-true _ (c .if2 .taken)) (all (c .before .before .before .before .before .loop .p) (c .before .before .before .if1 .taken)))
 
 add-p : tie.Need-add-p Inv-loop μ-loop
-add-p c = omega (arith, c .before .before .before .before .before .before .before .before .pre .good .n-fits .1)
+add-p c = omega (arith, c .before .before .before .before .before .before .before .before .before .pre .good .n-fits .1)
 
 loop-less : tie.Need-loop-less Inv-loop μ-loop
 loop-less c = omega arith
 
 loop-again : tie.Need-loop-again Inv-loop μ-loop
 loop-again c =
-    let at = c .before .before .before .before .before in
-    let a = at .before .before .before .args in
-    (omega arith, c .before .passes .ensures .0, passed-next (a .x) (a .s .now) (a .out .now) (at .loop .p) (at .loop .inv .2) (c .before .passes .ensures .1 .yes (not-false _ (c .if2 .left))))
+    let a = c .before .before .before .before .before .before .before .before .before .args in
+    let at = c .before .before .before .before .before .loop in
+    (omega arith, passed-next (a .x) (a .s .now) (a .out .now) (at .p) (at .inv .1) (c .before .passes .ensures .yes (not-false _ (c .if2 .left))))
 
 returns-2 : tie.Need-returns-2 Inv-loop μ-loop
-returns-2 c = tells-true (λ q h. c .before .before .loop .inv .2 q (omega arith))
+returns-2 c = tells-true (λ q h. c .before .before .loop .inv .1 q (omega arith))
 
 pub agree-spec : {M : Type 1} → statement M
 agree-spec =
@@ -47,6 +47,7 @@ agree-spec =
     (tie.spec
     Inv-loop
     μ-loop
+    table-requires
     loop-holds
     passes-requires
     returns

@@ -106,7 +106,7 @@ solve-first-solve-second-requires : (t : ℕ) → solve-first-lts.Need-solve-sec
   own-reads.Learnt,
 ) (solve-first-at t) solve-first.Post
 solve-first-solve-second-requires t c κs =
-    let s = c .before .before .before .before .before .before .before .before .before .before .before in let r = s .pre .1 .0 in let a = s .args in
+    let s = c .before .before .before .before .before .before .before .before .before .before in let r = s .pre .1 .0 in let a = s .args in
     (omega (arith, s .pre .0, r .near), (ready-next (a .x) 0 (a .d) (a .s .now) (a .out .now) r (omega arith), s .pre .1 .1))
 
 solve-first-place-requires-2 : (t : ℕ) → solve-first-lts.Need-place-requires-2 (
@@ -119,7 +119,7 @@ solve-first-place-requires-2 : (t : ℕ) → solve-first-lts.Need-place-requires
   own-reads.Asked,
   own-reads.Learnt,
 ) (solve-first-at t) solve-first.Post
-solve-first-place-requires-2 t c κs = let s = c .before .before .before .before .before .before .before .before .before .before .before .before .before .before .before .before in let r = s .pre .1 .0 in let a = s .args in (r .good, omega arith, omega (arith, r .good .n-fits .0, r .good .m-fits .0))
+solve-first-place-requires-2 t c κs = let s = c .before .before .before .before .before .before .before .before .before .before .before .before .before .before in let r = s .pre .1 .0 in let a = s .args in (r .good, omega arith, omega (arith, r .good .n-fits .0, r .good .m-fits .0))
 
 solve-first-add-own : (t : ℕ) → solve-first-lts.Need-add-own (
   below-reads.Asked,
@@ -133,7 +133,7 @@ solve-first-add-own : (t : ℕ) → solve-first-lts.Need-add-own (
 ) (solve-first-at t) solve-first.Post
 unfolding base-of
 solve-first-add-own t c =
-    let s = c .before .before .before .before .before .before .before .before .before .before .before .before .before .before .before .before .before .before in let r = s .pre .1 .0 in let a = s .args in
+    let s = c .before .before .before .before .before .before .before .before .before .before .before .before .before .before .before .before in let r = s .pre .1 .0 in let a = s .args in
     let n = ready-next (a .x) 0 (a .d) (a .s .now) (a .out .now) r (omega arith) in
     omega (arith, ready-room (a .x) 1 (a .d + a .x .walk) (a .s .now) (a .out .now) n .1, c .before .place2 .ensures .at)
 
@@ -149,22 +149,22 @@ solve-first-own-requires : (t : ℕ) → solve-first-lts.Need-own-requires (
 ) (solve-first-at t) solve-first.Post
 unfolding base-of
 solve-first-own-requires t c κs =
-    let s = c .before .before .before .before .before .before .before .before .before .before .before .before .before .before .before .before .before .before in let r = s .pre .1 .0 in let a = s .args in
+    let s = c .before .before .before .before .before .before .before .before .before .before .before .before .before .before .before .before in let r = s .pre .1 .0 in let a = s .args in
     let b = c .before .place2 .ensures .at in
-    let p = c .before .before .before .before .before .before .before .before .before .before .before .before .place .ensures .at in
-    let asked = c .before .before .before .before .before .before .solve-second .ensures in
+    let p = c .before .before .before .before .before .before .before .before .before .before .place .ensures .at in
+    let asked = c .before .before .before .before .before .solve-second .ensures in
     let n = ready-next (a .x) 0 (a .d) (a .s .now) (a .out .now) r (omega arith) in
     let here = ready-room (a .x) 0 (a .d) (a .s .now) (a .out .now) r in
     let there = ready-room (a .x) 1 (a .d + a .x .walk) (a .s .now) (a .out .now) n in (
       r .good,
       r .whole,
-      c .before .before .before .before .before .before .before .before .before .before .before .before .before .below .ensures .below,
+      c .before .before .before .before .before .before .before .before .before .before .before .below .ensures .below,
       omega arith,
       r .high,
       omega (arith, r .near),
-      asked .0,
-      omega (arith, here .0, asked .1, p),
-      λ z. (omega (arith, there .0, asked .1, b), omega (arith, there .1, b), rw (p, b) (ready-apart (a .x) 0 (a .d) (a .s .now) (a .out .now) r (omega arith))),
+      s .pre .1 .1,
+      omega (arith, here .0, asked .0, p),
+      λ z. (omega (arith, there .0, asked .0, b), omega (arith, there .1, b), rw (p, b) (ready-apart (a .x) 0 (a .d) (a .s .now) (a .out .now) r (omega arith))),
     )
 
 solve-first-own-requires-2 : (t : ℕ) → solve-first-lts.Need-own-requires-2 (
@@ -179,10 +179,10 @@ solve-first-own-requires-2 : (t : ℕ) → solve-first-lts.Need-own-requires-2 (
 ) (solve-first-at t) solve-first.Post
 unfolding base-of
 solve-first-own-requires-2 t c κs =
-    let s = c .before .before .before .before .before .before .before .before .before .before .before in let r = s .pre .1 .0 in let a = s .args in
-    let p = c .before .before .before .before .before .place .ensures .at in
+    let s = c .before .before .before .before .before .before .before .before .before .before in let r = s .pre .1 .0 in let a = s .args in
+    let p = c .before .before .before .before .place .ensures .at in
     let here = ready-room (a .x) 0 (a .d) (a .s .now) (a .out .now) r in
-    (r .good, r .whole, c .before .before .before .before .before .before .below .ensures .below, omega arith, r .high, omega (arith, r .near), s .pre .1 .1, omega (arith, here .0, p), λ z. absurd (omega arith))
+    (r .good, r .whole, c .before .before .before .before .before .below .ensures .below, omega arith, r .high, omega (arith, r .near), s .pre .1 .1, omega (arith, here .0, p), λ z. absurd (omega arith))
 
 solve-first-same-length : (t : ℕ) → solve-first-lts.Need-same-length (
   below-reads.Asked,
@@ -194,7 +194,7 @@ solve-first-same-length : (t : ℕ) → solve-first-lts.Need-same-length (
   own-reads.Asked,
   own-reads.Learnt,
 ) (solve-first-at t) solve-first.Post
-solve-first-same-length t c = c .before .before .own .ensures .1 .long ∙ c .before .before .before .before .before .before .before .before .before .solve-second .ensures .1
+solve-first-same-length t c = c .before .before .own .ensures .long ∙ c .before .before .before .before .before .before .before .before .solve-second .ensures .0
 
 solve-first-returns : (t : ℕ) → solve-first-lts.Need-returns (
   below-reads.Asked,
@@ -208,16 +208,15 @@ solve-first-returns : (t : ℕ) → solve-first-lts.Need-returns (
 ) (solve-first-at t) solve-first.Post
 unfolding base-of chain-of
 solve-first-returns t c =
-    let s = c .before .before .before .before .before .before .before .before .before .before .before .before .before .before .before .before .before .before .before .before .before in let r = s .pre .1 .0 in let a = s .args in
+    let s = c .before .before .before .before .before .before .before .before .before .before .before .before .before .before .before .before .before .before .before in let r = s .pre .1 .0 in let a = s .args in
     let own = c .before .before .own .ensures in
-    let asked = c .before .before .before .before .before .before .before .before .before .solve-second .ensures in
+    let asked = c .before .before .before .before .before .before .before .before .solve-second .ensures in
     let b = c .before .before .before .before .place2 .ensures .at in
-    let p = c .before .before .before .before .before .before .before .before .before .before .before .before .before .before .before .place .ensures .at in (
-      own .0,
-      own .1 .long ∙ asked .1,
+    let p = c .before .before .before .before .before .before .before .before .before .before .before .before .before .place .ensures .at in (
+      own .long ∙ asked .0,
       λ v sol.
-          stores-after (a .x) (a .s .now) v sol 0 (a .d) (omega arith) (r .column) (r .high) _ _ _ (c .before .before .before .before .before .before .before .before .before .before .before .before .before .before .before .before .below .ensures .is) (ap (λ (z : ℕ). base-of (a .x) 0 + z) p)
-          (a .out .now) _ _ (own .1) (omega (arith, c .before .before .before .before .before .before .before .before .before .before .before .before .if1 .taken)) (ap (λ (z : ℕ). base-of (a .x) 1 + z) b) (asked .2 v sol),
+          stores-after (a .x) (a .s .now) v sol 0 (a .d) (omega arith) (r .column) (r .high) _ _ _ (c .before .before .before .before .before .before .before .before .before .before .before .before .before .before .below .ensures .is) (ap (λ (z : ℕ). base-of (a .x) 0 + z) p)
+          (a .out .now) _ _ own (omega (arith, c .before .before .before .before .before .before .before .before .before .before .if1 .taken)) (ap (λ (z : ℕ). base-of (a .x) 1 + z) b) (asked .1 v sol),
     )
 
 solve-first-same-length-2 : (t : ℕ) → solve-first-lts.Need-same-length-2 (
@@ -230,7 +229,7 @@ solve-first-same-length-2 : (t : ℕ) → solve-first-lts.Need-same-length-2 (
   own-reads.Asked,
   own-reads.Learnt,
 ) (solve-first-at t) solve-first.Post
-solve-first-same-length-2 t c = c .before .before .own2 .ensures .1 .long
+solve-first-same-length-2 t c = c .before .before .own2 .ensures .long
 
 solve-first-returns-2 : (t : ℕ) → solve-first-lts.Need-returns-2 (
   below-reads.Asked,
@@ -244,14 +243,13 @@ solve-first-returns-2 : (t : ℕ) → solve-first-lts.Need-returns-2 (
 ) (solve-first-at t) solve-first.Post
 unfolding base-of chain-of
 solve-first-returns-2 t c =
-    let s = c .before .before .before .before .before .before .before .before .before .before .before .before .before .before in let r = s .pre .1 .0 in let a = s .args in
+    let s = c .before .before .before .before .before .before .before .before .before .before .before .before .before in let r = s .pre .1 .0 in let a = s .args in
     let own = c .before .before .own2 .ensures in
-    let p = c .before .before .before .before .before .before .before .before .place .ensures .at in (
-      own .0,
-      own .1 .long,
+    let p = c .before .before .before .before .before .before .before .place .ensures .at in (
+      own .long,
       λ v sol.
-          stores-alone (a .x) (a .s .now) v sol 0 (a .d) (omega arith) (r .column) (r .high) _ 0 _ (c .before .before .before .before .before .before .before .before .before .below .ensures .is) (ap (λ (z : ℕ). base-of (a .x) 0 + z) p)
-          (a .out .now) (a .out .now) _ (own .1) (omega arith),
+          stores-alone (a .x) (a .s .now) v sol 0 (a .d) (omega arith) (r .column) (r .high) _ 0 _ (c .before .before .before .before .before .before .before .before .below .ensures .is) (ap (λ (z : ℕ). base-of (a .x) 0 + z) p)
+          (a .out .now) (a .out .now) _ own (omega arith),
     )
 
 solve-second-add-h : (t : ℕ) → solve-second-lts.Need-add-h (
@@ -315,7 +313,7 @@ solve-second-solve-first-requires : (t : ℕ) → solve-second-lts.Need-solve-fi
   own-reads.Learnt,
 ) (solve-second-at t) solve-second.Post
 solve-second-solve-first-requires t c κs =
-    let s = c .before .before .before .before .before .before .before .before .before .before .before in let r = s .pre .1 .0 in let a = s .args in
+    let s = c .before .before .before .before .before .before .before .before .before .before in let r = s .pre .1 .0 in let a = s .args in
     (omega (arith, s .pre .0, r .near), (ready-next (a .x) 1 (a .d) (a .s .now) (a .out .now) r (omega arith), s .pre .1 .1))
 
 solve-second-place-requires-2 : (t : ℕ) → solve-second-lts.Need-place-requires-2 (
@@ -328,7 +326,7 @@ solve-second-place-requires-2 : (t : ℕ) → solve-second-lts.Need-place-requir
   own-reads.Asked,
   own-reads.Learnt,
 ) (solve-second-at t) solve-second.Post
-solve-second-place-requires-2 t c κs = let s = c .before .before .before .before .before .before .before .before .before .before .before .before .before .before .before .before in let r = s .pre .1 .0 in let a = s .args in (r .good, omega arith, omega (arith, r .good .n-fits .0, r .good .m-fits .0))
+solve-second-place-requires-2 t c κs = let s = c .before .before .before .before .before .before .before .before .before .before .before .before .before .before in let r = s .pre .1 .0 in let a = s .args in (r .good, omega arith, omega (arith, r .good .n-fits .0, r .good .m-fits .0))
 
 solve-second-add-own : (t : ℕ) → solve-second-lts.Need-add-own (
   above-reads.Asked,
@@ -342,7 +340,7 @@ solve-second-add-own : (t : ℕ) → solve-second-lts.Need-add-own (
 ) (solve-second-at t) solve-second.Post
 unfolding base-of
 solve-second-add-own t c =
-    let s = c .before .before .before .before .before .before .before .before .before .before .before .before .before .before .before .before .before .before in let r = s .pre .1 .0 in let a = s .args in
+    let s = c .before .before .before .before .before .before .before .before .before .before .before .before .before .before .before .before in let r = s .pre .1 .0 in let a = s .args in
     let n = ready-next (a .x) 1 (a .d) (a .s .now) (a .out .now) r (omega arith) in
     omega (arith, ready-room (a .x) 0 (a .d + a .x .walk) (a .s .now) (a .out .now) n .1, c .before .place2 .ensures .at)
 
@@ -358,22 +356,22 @@ solve-second-own-requires : (t : ℕ) → solve-second-lts.Need-own-requires (
 ) (solve-second-at t) solve-second.Post
 unfolding base-of
 solve-second-own-requires t c κs =
-    let s = c .before .before .before .before .before .before .before .before .before .before .before .before .before .before .before .before .before .before in let r = s .pre .1 .0 in let a = s .args in
+    let s = c .before .before .before .before .before .before .before .before .before .before .before .before .before .before .before .before in let r = s .pre .1 .0 in let a = s .args in
     let b = c .before .place2 .ensures .at in
-    let p = c .before .before .before .before .before .before .before .before .before .before .before .before .place .ensures .at in
-    let asked = c .before .before .before .before .before .before .solve-first .ensures in
+    let p = c .before .before .before .before .before .before .before .before .before .before .place .ensures .at in
+    let asked = c .before .before .before .before .before .solve-first .ensures in
     let n = ready-next (a .x) 1 (a .d) (a .s .now) (a .out .now) r (omega arith) in
     let here = ready-room (a .x) 1 (a .d) (a .s .now) (a .out .now) r in
     let there = ready-room (a .x) 0 (a .d + a .x .walk) (a .s .now) (a .out .now) n in (
       r .good,
       r .whole,
-      c .before .before .before .before .before .before .before .before .before .before .before .before .before .above .ensures .below,
+      c .before .before .before .before .before .before .before .before .before .before .before .above .ensures .below,
       omega arith,
       r .high,
       omega (arith, r .near),
-      asked .0,
-      omega (arith, here .0, asked .1, p),
-      λ z. (omega (arith, there .0, asked .1, b), omega (arith, there .1, b), rw (p, b) (ready-apart (a .x) 1 (a .d) (a .s .now) (a .out .now) r (omega arith))),
+      s .pre .1 .1,
+      omega (arith, here .0, asked .0, p),
+      λ z. (omega (arith, there .0, asked .0, b), omega (arith, there .1, b), rw (p, b) (ready-apart (a .x) 1 (a .d) (a .s .now) (a .out .now) r (omega arith))),
     )
 
 solve-second-own-requires-2 : (t : ℕ) → solve-second-lts.Need-own-requires-2 (
@@ -388,10 +386,10 @@ solve-second-own-requires-2 : (t : ℕ) → solve-second-lts.Need-own-requires-2
 ) (solve-second-at t) solve-second.Post
 unfolding base-of
 solve-second-own-requires-2 t c κs =
-    let s = c .before .before .before .before .before .before .before .before .before .before .before in let r = s .pre .1 .0 in let a = s .args in
-    let p = c .before .before .before .before .before .place .ensures .at in
+    let s = c .before .before .before .before .before .before .before .before .before .before in let r = s .pre .1 .0 in let a = s .args in
+    let p = c .before .before .before .before .place .ensures .at in
     let here = ready-room (a .x) 1 (a .d) (a .s .now) (a .out .now) r in
-    (r .good, r .whole, c .before .before .before .before .before .before .above .ensures .below, omega arith, r .high, omega (arith, r .near), s .pre .1 .1, omega (arith, here .0, p), λ z. absurd (omega arith))
+    (r .good, r .whole, c .before .before .before .before .before .above .ensures .below, omega arith, r .high, omega (arith, r .near), s .pre .1 .1, omega (arith, here .0, p), λ z. absurd (omega arith))
 
 solve-second-same-length : (t : ℕ) → solve-second-lts.Need-same-length (
   above-reads.Asked,
@@ -403,7 +401,7 @@ solve-second-same-length : (t : ℕ) → solve-second-lts.Need-same-length (
   own-reads.Asked,
   own-reads.Learnt,
 ) (solve-second-at t) solve-second.Post
-solve-second-same-length t c = c .before .before .own .ensures .1 .long ∙ c .before .before .before .before .before .before .before .before .before .solve-first .ensures .1
+solve-second-same-length t c = c .before .before .own .ensures .long ∙ c .before .before .before .before .before .before .before .before .solve-first .ensures .0
 
 solve-second-returns : (t : ℕ) → solve-second-lts.Need-returns (
   above-reads.Asked,
@@ -417,16 +415,15 @@ solve-second-returns : (t : ℕ) → solve-second-lts.Need-returns (
 ) (solve-second-at t) solve-second.Post
 unfolding base-of chain-of
 solve-second-returns t c =
-    let s = c .before .before .before .before .before .before .before .before .before .before .before .before .before .before .before .before .before .before .before .before .before in let r = s .pre .1 .0 in let a = s .args in
+    let s = c .before .before .before .before .before .before .before .before .before .before .before .before .before .before .before .before .before .before .before in let r = s .pre .1 .0 in let a = s .args in
     let own = c .before .before .own .ensures in
-    let asked = c .before .before .before .before .before .before .before .before .before .solve-first .ensures in
+    let asked = c .before .before .before .before .before .before .before .before .solve-first .ensures in
     let b = c .before .before .before .before .place2 .ensures .at in
-    let p = c .before .before .before .before .before .before .before .before .before .before .before .before .before .before .before .place .ensures .at in (
-      own .0,
-      own .1 .long ∙ asked .1,
+    let p = c .before .before .before .before .before .before .before .before .before .before .before .before .before .place .ensures .at in (
+      own .long ∙ asked .0,
       λ v sol.
-          stores-after (a .x) (a .s .now) v sol 1 (a .d) (omega arith) (r .column) (r .high) _ _ _ (c .before .before .before .before .before .before .before .before .before .before .before .before .before .before .before .before .above .ensures .is) (ap (λ (z : ℕ). base-of (a .x) 1 + z) p)
-          (a .out .now) _ _ (own .1) (omega (arith, c .before .before .before .before .before .before .before .before .before .before .before .before .if1 .taken)) (ap (λ (z : ℕ). base-of (a .x) 0 + z) b) (asked .2 v sol),
+          stores-after (a .x) (a .s .now) v sol 1 (a .d) (omega arith) (r .column) (r .high) _ _ _ (c .before .before .before .before .before .before .before .before .before .before .before .before .before .before .above .ensures .is) (ap (λ (z : ℕ). base-of (a .x) 1 + z) p)
+          (a .out .now) _ _ own (omega (arith, c .before .before .before .before .before .before .before .before .before .before .if1 .taken)) (ap (λ (z : ℕ). base-of (a .x) 0 + z) b) (asked .1 v sol),
     )
 
 solve-second-same-length-2 : (t : ℕ) → solve-second-lts.Need-same-length-2 (
@@ -439,7 +436,7 @@ solve-second-same-length-2 : (t : ℕ) → solve-second-lts.Need-same-length-2 (
   own-reads.Asked,
   own-reads.Learnt,
 ) (solve-second-at t) solve-second.Post
-solve-second-same-length-2 t c = c .before .before .own2 .ensures .1 .long
+solve-second-same-length-2 t c = c .before .before .own2 .ensures .long
 
 solve-second-returns-2 : (t : ℕ) → solve-second-lts.Need-returns-2 (
   above-reads.Asked,
@@ -453,14 +450,13 @@ solve-second-returns-2 : (t : ℕ) → solve-second-lts.Need-returns-2 (
 ) (solve-second-at t) solve-second.Post
 unfolding base-of chain-of
 solve-second-returns-2 t c =
-    let s = c .before .before .before .before .before .before .before .before .before .before .before .before .before .before in let r = s .pre .1 .0 in let a = s .args in
+    let s = c .before .before .before .before .before .before .before .before .before .before .before .before .before in let r = s .pre .1 .0 in let a = s .args in
     let own = c .before .before .own2 .ensures in
-    let p = c .before .before .before .before .before .before .before .before .place .ensures .at in (
-      own .0,
-      own .1 .long,
+    let p = c .before .before .before .before .before .before .before .place .ensures .at in (
+      own .long,
       λ v sol.
-          stores-alone (a .x) (a .s .now) v sol 1 (a .d) (omega arith) (r .column) (r .high) _ 0 _ (c .before .before .before .before .before .before .before .before .before .above .ensures .is) (ap (λ (z : ℕ). base-of (a .x) 1 + z) p)
-          (a .out .now) (a .out .now) _ (own .1) (omega arith),
+          stores-alone (a .x) (a .s .now) v sol 1 (a .d) (omega arith) (r .column) (r .high) _ 0 _ (c .before .before .before .before .before .before .before .before .above .ensures .is) (ap (λ (z : ℕ). base-of (a .x) 1 + z) p)
+          (a .out .now) (a .out .now) _ own (omega arith),
     )
 
 pub +solve-first+solve-second-spec : {M : Type 1} → statement M

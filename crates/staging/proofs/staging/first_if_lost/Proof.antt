@@ -10,7 +10,7 @@ use Rattle.staging.proofs.staging.first_if_lost.Tie as tie
 solve-first-requires : tie.Need-solve-first-requires
 unfolding column-of
 solve-first-requires c κs =
-    let s = c .before .before .before .before .before .before in
+    let s = c .before .before .before .before .before in
     (stageable-ready _ _ _ (s .pre .0) 0 _ (omega arith) (s .pre .1) (omega arith), s .pre .2)
 
 same-length : tie.Need-same-length
@@ -20,12 +20,12 @@ returns : tie.Need-returns
 unfolding column-of
 returns c =
     let f = c .before .before .solve-first .ensures in
-    (f .0, f .1, λ v k. record { lost = λ z. f .2 v k; kept = λ z. absurd (omega arith) })
+    (f .0, λ v k. record { lost = λ z. f .1 v k; kept = λ z. absurd (omega arith) })
 
 returns-2 : tie.Need-returns-2
 unfolding column-of
 returns-2 c =
-    (c .before .before .before .before .pre .2, refl, λ v k. record { lost = λ z. absurd (omega arith); kept = λ z. refl })
+    (refl, λ v k. record { lost = λ z. absurd (omega arith); kept = λ z. refl })
 
 pub first-if-lost-spec : {M : Type 1} → statement M
 first-if-lost-spec = tie.close (tie.spec solve-first-requires same-length returns returns-2)

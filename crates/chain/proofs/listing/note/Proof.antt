@@ -1,24 +1,26 @@
--- `note`. The invariant: the heights below d are noted. The measure is what is left of the heights.
-use mathlib.Core.Path.{_≡_, _∙_}
+-- `note`. The invariant: the heights below d are noted, and what stands behind all of them is as it was. The measure is what is left of the heights.
+use mathlib.Core.Path.{_≡_, refl, _∙_}
 use Prim.Native.Nat.{ℕ, _+_, _-_, _*_, _≤_}
 use native.Mathlib.Omega.{arith}
-use lib.ListN.{length, set, length-set}
+use lib.ListN.{length, getD, set, length-set}
+use lib.Seq.{getD-set-other}
 use Rattle.shape.specs.Walk.{Ways}
 use Rattle.shape.proofs.WalkLaws.{Step, step-of}
 use Rattle.chain.specs.Places.{Listed}
 use Rattle.chain.proofs.PlacesLaws.{listed-more}
-use Rattle.chain.proofs.note.Statement.{statement}
-use Rattle.chain.proofs.note.Tie as tie
+use Rattle.chain.proofs.listing.note.Statement.{statement}
+use Rattle.chain.proofs.listing.note.Tie as tie
 
 abbrev Inv-loop : tie.InvT-loop
 Inv-loop list₀ sh l r base start end d₀ list d =
     (start ≤ d) × (d ≤ end) × ((p : ℕ) → Ways sh p l r base start end → Listed sh p start list₀ → Listed sh p d list) × (length list ≡ 32)
+    × ((i : ℕ) → 2 * end - 2 ≤ i → getD list i 0 ≡ getD list₀ i 0)
 
 abbrev μ-loop : tie.MeasureT-loop
 μ-loop list₀ sh l r base start end d₀ list d = end - d
 
 loop-holds : tie.Need-loop-holds Inv-loop μ-loop
-loop-holds c = (omega arith, omega (arith, c .pre .1 .1 .order), (λ p w h. h), c .pre .2)
+loop-holds c = (omega arith, omega (arith, c .pre .1 .1 .order), (λ p w h. h), c .pre .2, λ i h. refl)
 
 sub-further : tie.Need-sub-further Inv-loop μ-loop
 sub-further c = omega (arith, c .before .before .pre .1 .1 .since)
@@ -85,12 +87,13 @@ loop-again c =
       (λ p w h. listed-more (s .args .sh) p d (at .list) (c .before .place .result) (c .place2 .result) (s .args .l - (d - s .args .base)) (s .args .r + (d - s .args .base)) (omega (arith, w .low)) (omega (arith, w .high, s .pre .0 .m-fits .1)) (at .inv .2 p w h)
           (c .before .place .ensures .at) (w .left-is d (omega arith) (omega arith)) (c .place2 .ensures .at) (w .right-is d (omega arith) (omega arith))),
       length-set (set (at .list) (2 * d - 2) (c .before .place .result)) (2 * d - 1) (c .place2 .result) ∙ length-set (at .list) (2 * d - 2) (c .before .place .result) ∙ at .inv .3,
+      (λ i h. getD-set-other (set (at .list) (2 * d - 2) (c .before .place .result)) (2 * d - 1) i (c .place2 .result) 0 (λ z. omega arith) ∙ getD-set-other (at .list) (2 * d - 2) i (c .before .place .result) 0 (λ z. omega arith) ∙ at .inv .4 i h),
     )
 
 returns : tie.Need-returns Inv-loop μ-loop
 returns c =
     let e : c .before .loop .d ≡ c .before .before .args .end = omega (arith, c .before .before .pre .1 .1 .order) in
-    (rw e at (c .before .loop .inv .2), c .before .loop .inv .3)
+    (rw e at (c .before .loop .inv .2), c .before .loop .inv .3, c .before .loop .inv .4)
 
 pub note-spec : {M : Type 1} → statement M
 note-spec =
