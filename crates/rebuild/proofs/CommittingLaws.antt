@@ -14,7 +14,7 @@ use Rattle.shape.specs.Place.{place, byte}
 use Rattle.stripe.specs.Set.{Set}
 use Rattle.solving.specs.declared.Gone.{Gone}
 use Rattle.solving.specs.Outer.{column-of, base-of, spot}
-use Rattle.solving.specs.Agreeing.{patched}
+use Rattle.agreeing.specs.Agreeing.{patched}
 use Rattle.staging.specs.Reading.{Led}
 use Rattle.staging.specs.Staging.{Stageable}
 use Rattle.rebuild.specs.Committing.{side-at, height-at, column-at, staged-symbol, stores-of, stores-in-all, Made}

@@ -26,8 +26,8 @@ use Rattle.rule.proofs.OuterLaws.{outer-one, outer-some}
 use Rattle.rule.proofs.SolvesLaws.{solves-outer}
 use Rattle.solving.specs.declared.Gone.{Gone}
 use Rattle.solving.specs.Outer.{column-of, chain-of, Solved}
-use Rattle.solving.specs.Agreeing.{patched, Uses, Holds, Agreed, Patchable}
-use Rattle.solving.proofs.AgreeingLaws.{patched-first, patched-second, patched-else, uses?}
+use Rattle.agreeing.specs.Agreeing.{patched, Uses, Holds, Agreed, Patchable}
+use Rattle.agreeing.proofs.AgreeingLaws.{patched-first, patched-second, patched-else, uses?}
 use Rattle.staging.specs.Reading.{Read, Led}
 use Rattle.staging.specs.Staging.{Stageable, Staged}
 use Rattle.rebuild.specs.Committing.{stores-in-all, Made}

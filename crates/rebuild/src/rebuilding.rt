@@ -8,10 +8,10 @@ ghost use Rattle.rebuild.specs.Rebuild.{late-table, rebuild-table, Other
 use crate::committing::commit;
 use crate::committing::stores;
 use crate::refusing::refusal;
+use agreeing::agree;
 use rule::Losses;
 use shape::Answer;
 use shape::Shape;
-use solving::agree;
 use staging::read;
 use staging::stage;
 

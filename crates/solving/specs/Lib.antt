@@ -1,3 +1,1 @@
 pub mod Outer
-pub mod Holding
-pub mod Agreeing

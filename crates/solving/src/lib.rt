@@ -1,11 +1,9 @@
 // A symbol solved: the sum of the other symbols of its chain, some of which may have been solved before it.
 use shape::Shape;
 
-mod agreeing;
-mod holding;
 mod outer;
 
-pub use agreeing::agree;
+pub use outer::below;
 pub use outer::solve_first;
 pub use outer::solve_second;
 

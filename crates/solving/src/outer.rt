@@ -19,7 +19,7 @@ use summing::sources::sources;
 use summing::sum_symbol;
 
 // The column d to the left of c, modulo n, without a division.
-pub(crate) fn below(n: usize, c: usize, d: usize) -> usize
+pub fn below(n: usize, c: usize, d: usize) -> usize
     requires { ⌜ (c < n) × (d < n) × (n ≤ 64) ⌝ }
     ensures { λ r. ⌜ Stepped n (left n c d) r ⌝ }
 {

@@ -15,12 +15,11 @@ use Rattle.shape.specs.declared.Shape.{Shape}
 use Rattle.shape.specs.Good.{Good, size}
 use Rattle.shape.specs.Place.{column-length, byte}
 use Rattle.shape.proofs.GoodLaws.{good-m, good-room, good-wide}
-use Rattle.shape.proofs.WalkLaws.{left-near, left-far}
 use Rattle.rule.specs.declared.Losses.{Losses}
 use Rattle.rule.specs.declared.Losses.the-variants.{Two}
 use Rattle.rule.specs.Losses.{Beyond, Twice}
 use Rattle.rule.specs.Outer.{walk, first, second, reading, Outer}
-use Rattle.rule.proofs.OrderLaws.{walk-left, walk-lt, first-in}
+use Rattle.rule.proofs.OrderLaws.{walk-lt, first-in}
 use Rattle.rule.proofs.Reading.{reading-order}
 use Rattle.rule.proofs.Solve.{Order, side-column, order-near, order-apart, asked-lt}
 use Rattle.solving.specs.declared.Gone.{Gone}
@@ -28,13 +27,6 @@ use Rattle.solving.specs.Outer.{column-of, Solved}
 use Rattle.solving.proofs.SolvedLaws.{outer-is-solved}
 use Rattle.staging.specs.Reading.{Read, Led}
 use Rattle.staging.specs.Staging.{Stageable, Staged}
-
-module _ (n a b : ℕ) (hb : b < n) where
-  pub walk-near : a ≤ b → b - a ≡ walk n a b
-  walk-near h = left-near n b hb a h ∙ walk-left n a b
-
-  pub walk-far : b < a → a < n → b + n - a ≡ walk n a b
-  walk-far h ha = left-far n b hb a h ha ∙ walk-left n a b
 
 module _ (n a b : ℕ) (ne : a ≢ b) where
   pub first-nearer : walk n a b < walk n b a → Tells (first n a b ≡ a) true

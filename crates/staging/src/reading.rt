@@ -12,16 +12,14 @@ ghost use Rattle.staging.specs.Reading.{Read};
 use rule::Losses;
 use shape::Shape;
 use solving::Gone;
+use solving::below;
 
 // How far it is to walk upward, modulo n, from column a to column b.
 fn upward(n: usize, a: usize, b: usize) -> usize
     requires { ⌜ (a < n) × (b < n) × (n ≤ 64) ⌝ }
     ensures { λ r. ⌜ r ≡ walk n a b ⌝ }
 {
-    if b < a {
-        return b + n - a;
-    }
-    b - a
+    below(n, b, a)
 }
 
 // Whether a is the first of two columns: the walk from it up to the other is the shorter, or both are as long and its number is smaller.

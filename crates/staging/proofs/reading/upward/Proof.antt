@@ -1,21 +1,15 @@
--- `upward`: past column n - 1 the columns go on at 0.
-use native.Mathlib.Omega.{arith}
-use Rattle.staging.proofs.ReadingLaws.{walk-near, walk-far}
+-- `upward`: it is as far up from a to b as the column a to the left of b has columns to its left.
+use mathlib.Core.Path.{_∙_}
 use borrow.Author.Needs.{needs}
+use Rattle.rule.proofs.OrderLaws.{walk-left}
 use Rattle.staging.proofs.reading.upward.Statement.{statement}
 use Rattle.staging.proofs.reading.upward.Tie as tie
 
-add-result : tie.Need-add-result
-add-result c = search needs
-
-sub-result : tie.Need-sub-result
-sub-result c = search needs
+below-requires : tie.Need-below-requires
+below-requires c κs = search needs
 
 returns : tie.Need-returns
-returns c = let s = c .before in walk-far (s .args .n) (s .args .a) (s .args .b) (s .pre .1) (omega arith) (s .pre .0)
-
-returns-2 : tie.Need-returns-2
-returns-2 c = let s = c .before in walk-near (s .args .n) (s .args .a) (s .args .b) (s .pre .1) (omega arith)
+returns c = c .below .ensures .is ∙ walk-left _ _ _
 
 pub upward-spec : {M : Type 1} → statement M
-upward-spec = tie.close (tie.spec add-result sub-result returns returns-2)
+upward-spec = tie.close (tie.spec below-requires returns)
