@@ -1,24 +1,25 @@
 -- Laws of agreement: which chains are used, and what it is to compare a chain that is not.
--- To cite: patched-first, patched-second, patched-else; uses?, uses-first, uses-second, uses-near; back-uses, uses-back; asked-pos, agrees-tells, even-tells; passed-next.
-use mathlib.Core.Path.{_≡_, refl, sym, ap, ap₂, _∙_, subst}
+-- To cite: patched-first, patched-second, patched-else; same-walk, same-distance; uses?, uses-first, uses-second, uses-near; asked-pos, agrees-tells, even-holds, holds-even, even-tells.
+use mathlib.Core.Path.{_≡_, refl, sym, ap, _∙_, subst}
 use mathlib.Core.Logic.{_≢_, Ne·symm, _⊎_, inl, inr, ⊎-elim}
-use mathlib.Core.Bool.{Bool, true, cond}
+use mathlib.Core.Bool.{Bool, cond}
 use mathlib.Core.List.{List}
 use Prim.Native.Nat.{ℕ, zero, suc, _+_, _≤_, _<_}
 use native.Mathlib.Omega.{arith}
 use native.Mathlib.Decide.{decLt}
 use lib.Dec.{ltb}
-use lib.ListN.{length, getD}
+use lib.ListN.{getD}
 use borrow.Author.Tests.{eq-eqb, ne-eqb, lt-ltb, le-ltb}
 use Rattle.xor.specs.Xor.{_⊕_}
-use Rattle.xor.specs.Asked.{Tells}
+use Rattle.xor.specs.Tells.{Tells}
 use Rattle.xor.proofs.XorLaws.{⊕-eq, ⊕-same}
+use Rattle.shape.specs.declared.Shape.{Shape}
 use Rattle.shape.specs.Good.{Good}
 use Rattle.shape.specs.Place.{place, byte}
 use Rattle.shape.specs.Step.{left, right}
 use Rattle.shape.proofs.GoodLaws.{good-m, good-room}
-use Rattle.shape.proofs.StepLaws.{reach₂, left-zero, left-reach, left-is, right-reach, right-is}
-use Rattle.rule.specs.Rule.{others, chain}
+use Rattle.shape.proofs.StepLaws.{reach₂, left-zero, left-reach, left-is, right-zero, right-reach, right-is}
+use Rattle.rule.specs.Rule.{chain}
 use Rattle.rule.specs.Outer.{walk}
 use Rattle.rule.proofs.OrderLaws.{walk-lt, walk-pos, walk-reach}
 use Rattle.solving.specs.declared.Gone.{Gone}
@@ -26,11 +27,11 @@ use Rattle.summing.specs.declared.Sum.{Sum}
 use Rattle.summing.specs.Sums.{summed}
 use Rattle.summing.specs.Sources.{besides, Sourced}
 use Rattle.solving.specs.Outer.{column-of, base-of, spot, chain-of}
-use Rattle.summing.specs.Matching.{Level}
+use Rattle.summing.specs.Matching.{Level, bytes-at}
 use Rattle.agreeing.specs.Holding.{Even}
-use Rattle.agreeing.specs.Agreeing.{patched, Uses, Holds, Passes, distance, Back, Patchable}
+use Rattle.agreeing.specs.Agreeing.{patched, Uses, Holds, distance, Patchable}
 use Rattle.summing.proofs.FlatLaws.{symbol-at}
-use Rattle.agreeing.proofs.ChangedLaws.{distance-of, distance-none, distance-near, near-back, back-near, p-f, p-g, left-f, changed-chain, unchanged-chain}
+use Rattle.agreeing.proofs.ChangedLaws.{distance-of, distance-none, distance-near, p-f, p-g, left-f, changed-chain, unchanged-chain}
 
 -- ---- the stripe with its lost columns in place
 
@@ -48,10 +49,13 @@ module _ (g : Gone) (s out : List ℕ) (d t : ℕ) where
   patched-else c u v = rw (ne-eqb c (g .first) u, ne-eqb c (g .second) v) refl
 
 -- a way of that length is the walk
-same-walk : (n a b d : ℕ) → a < n → b < n → d < n → (a + d ≡ b) ⊎ (a + d ≡ b + n) → walk n a b ≡ d
+pub same-walk : (n a b d : ℕ) → a < n → b < n → d < n → (a + d ≡ b) ⊎ (a + d ≡ b + n) → walk n a b ≡ d
 same-walk n a b d ha hb hd r =
     let l = walk-lt n a b ha hb in
     reach₂ r (walk-reach n a b ha hb) (λ u v. omega arith) (λ u v. omega (arith, l)) (λ u v. omega arith) (λ u v. omega (arith, l))
+
+pub same-distance : (sh : Shape) (a b d : ℕ) → a < sh .n → b < sh .n → d < sh .n → (a + d ≡ b) ⊎ (a + d ≡ b + sh .n) → distance sh a b ≡ d
+same-distance sh a b d ha hb hd r = distance-of sh a b ha hb ∙ same-walk (sh .n) a b d ha hb hd r
 
 module _ (g : Gone) (good : Good (g .shape)) (p : ℕ) (hp : p < g .shape .n) where
   -- ---- the chains that are used: first is up from them, or they are up from second
@@ -88,25 +92,15 @@ module _ (g : Gone) (good : Good (g .shape)) (p : ℕ) (hp : p < g .shape .n) wh
       let k : d < g .shape .n = omega (arith, good-room (g .shape) good) in
       inl (omega (
         arith,
-        distance-of (g .shape) p (g .first) hp hc,
-        same-walk (g .shape .n) p (g .first) d hp hc k (subst (λ (q : ℕ). (q + d ≡ g .first) ⊎ (q + d ≡ g .first + g .shape .n)) (sym e) (left-reach (g .shape .n) (g .first) d hc k)),
+        same-distance (g .shape) p (g .first) d hp hc k (subst (λ (q : ℕ). (q + d ≡ g .first) ⊎ (q + d ≡ g .first + g .shape .n)) (sym e) (left-reach (g .shape .n) (g .first) d hc k)),
       ))
   uses-near (suc zero, d, hs, hc, hd, e) =
       let k : d < g .shape .n = omega (arith, good-room (g .shape) good) in
       inr (omega (
         arith,
-        distance-of (g .shape) (g .second) p hc hp,
-        same-walk (g .shape .n) (g .second) p d hc hp k (subst (λ (q : ℕ). (g .second + d ≡ q) ⊎ (g .second + d ≡ q + g .shape .n)) (sym e) (right-reach (g .shape .n) (g .second) d hc k)),
+        same-distance (g .shape) (g .second) p d hc hp k (subst (λ (q : ℕ). (g .second + d ≡ q) ⊎ (g .second + d ≡ q + g .shape .n)) (sym e) (right-reach (g .shape .n) (g .second) d hc k)),
       ))
   uses-near (suc (suc i), d, hs, hc, hd, e) = absurd (omega arith)
-
-  -- by the ways the other way round
-  pub back-uses : Back (g .shape) (distance (g .shape) (g .first) p) ⊎ Back (g .shape) (distance (g .shape) p (g .second)) → Uses g p
-  back-uses (inl h) = uses-first (back-near (g .shape) good p (g .first) h)
-  back-uses (inr h) = uses-second (back-near (g .shape) good (g .second) p h)
-
-  pub uses-back : Uses g p → Back (g .shape) (distance (g .shape) (g .first) p) ⊎ Back (g .shape) (distance (g .shape) p (g .second))
-  uses-back u = ⊎-elim (λ h. inl (near-back (g .shape) good p (g .first) h)) (λ h. inr (near-back (g .shape) good (g .second) p h)) (uses-near u)
 
   pub uses? : Dec (Uses g p)
   uses? = at (decLt (distance (g .shape) p (g .first)) (g .shape .m)) (decLt (distance (g .shape) (g .second) p) (g .shape .m))
@@ -119,10 +113,10 @@ module _ (g : Gone) (good : Good (g .shape)) (p : ℕ) (hp : p < g .shape .n) wh
   -- ---- a chain that is not used
 
   module _ (free : ¬ Uses g p) where
-    off-first : g .shape .m ≤ distance (g .shape) p (g .first)
+    pub off-first : g .shape .m ≤ distance (g .shape) p (g .first)
     off-first = let no : ¬ (distance (g .shape) p (g .first) < g .shape .m) = λ h. free (uses-first h) in omega arith
 
-    off-second : g .shape .m ≤ distance (g .shape) (g .second) p
+    pub off-second : g .shape .m ≤ distance (g .shape) (g .second) p
     off-second = let no : ¬ (distance (g .shape) (g .second) p < g .shape .m) = λ h. free (uses-second h) in omega arith
 
     -- second is not the chain's own column
@@ -162,7 +156,7 @@ module _ (g : Gone) (good : Good (g .shape)) (p : ℕ) (hp : p < g .shape .n) wh
 
         level-holds : (u : List ℕ) (at : ℕ) (r : Bool)
             → ((t : ℕ) → t < g .shape .w → patched g s out t e (left (g .shape .n) p e) ≡ getD u (at + t) 0)
-            → Tells (Level s out list x u at 0 (g .shape .w)) r → Tells (Holds g s out p) r
+            → Tells (Level (summed s out list x) (bytes-at u at) 0 (g .shape .w)) r → Tells (Holds g s out p) r
         level-holds u at r is tells = record {
           yes = λ k t ht. chain-is t ht ∙ ⊕-same _ _ (tells .yes k t (omega arith) ht ∙ sym (is t ht));
           no = λ k. tells .no (λ t lo ht. ⊕-eq _ _ (sym (chain-is t ht) ∙ k t ht) ∙ is t ht);
@@ -175,7 +169,7 @@ module _ (g : Gone) (good : Good (g .shape)) (p : ℕ) (hp : p < g .shape .n) wh
         b-is = rw (sym eh) eb
 
         agrees-first : (d : ℕ) → d ≡ distance (g .shape) (g .first) p → d < g .shape .m → Sourced (g .shape) p 1 d 0 h′ b list x
-            → at ≡ g .one + place (g .shape) d 0 0 → Tells (Level s out list x out at 0 (g .shape .w)) r → Tells (Holds g s out p) r
+            → at ≡ g .one + place (g .shape) d 0 0 → Tells (Level (summed s out list x) (bytes-at out at) 0 (g .shape .w)) r → Tells (Holds g s out p) r
         unfolding base-of
         agrees-first d ed hd from ea tells =
             level-holds b b-is list x d (inl (omega (arith, ed), ed)) (rw (sym eh) from) out at r (λ t ht.
@@ -183,7 +177,7 @@ module _ (g : Gone) (good : Good (g .shape)) (p : ℕ) (hp : p < g .shape .n) wh
             ∙ patched-first g s out d t ∙ ap (λ (i : ℕ). getD out (i + t) 0) (sym ea)) tells
 
         agrees-parity : g .shape .m ≤ distance (g .shape) (g .first) p → Sourced (g .shape) p 1 0 0 h′ b list x
-            → at ≡ place (g .shape) 0 p 0 → Tells (Level s out list x s at 0 (g .shape .w)) r → Tells (Holds g s out p) r
+            → at ≡ place (g .shape) 0 p 0 → Tells (Level (summed s out list x) (bytes-at s at) 0 (g .shape .w)) r → Tells (Holds g s out p) r
         agrees-parity away from ea tells =
             level-holds b b-is list x 0 (inr (away, refl)) (rw (sym eh) from) s at r (λ t ht.
             ap (patched g s out t 0) (left-zero (g .shape .n) p hp)
@@ -193,7 +187,7 @@ module _ (g : Gone) (good : Good (g .shape)) (p : ℕ) (hp : p < g .shape .n) wh
         -- e is the height of the symbol that is compared, u the slice that it is in
         pub agrees-tells : (d e : ℕ) (u : List ℕ) → d ≡ distance (g .shape) (g .first) p → e ≡ cond (ltb d (g .shape .m)) d 0 → u ≡ cond (ltb d (g .shape .m)) out s
             → at ≡ cond (ltb d (g .shape .m)) (g .one + place (g .shape) d 0 0) (place (g .shape) 0 p 0)
-            → Sourced (g .shape) p 1 e 0 h′ b list x → Tells (Level s out list x u at 0 (g .shape .w)) r → Tells (Holds g s out p) r
+            → Sourced (g .shape) p 1 e 0 h′ b list x → Tells (Level (summed s out list x) (bytes-at u at) 0 (g .shape .w)) r → Tells (Holds g s out p) r
         agrees-tells d e u ed ee eu ea from tells = on (decLt d (g .shape .m))
           where
             on : Dec (d < g .shape .m) → Tells (Holds g s out p) r
@@ -215,17 +209,24 @@ module _ (g : Gone) (good : Good (g .shape)) (p : ℕ) (hp : p < g .shape .n) wh
           (λ d c hd hc u v. patched-else g s out d t c u v) away off
 
       -- neither first nor second is near: the chain holds if it does in the stripe
-      pub even-tells : (r : Bool) → g .shape .m ≤ distance (g .shape) (g .first) p → g .shape .m ≤ h → Tells (Even (g .shape) s p 0 (g .shape .w)) r → Tells (Holds g s out p) r
+      pub even-holds : g .shape .m ≤ distance (g .shape) (g .first) p → g .shape .m ≤ h → Even (g .shape) s p 0 (g .shape .w) → Holds g s out p
       unfolding chain
-      even-tells r away off tells = record {
-        yes = λ k t ht. as-it-stands away off t ∙ ⊕-same _ _ (sym (tells .yes k t (omega arith) ht));
-        no = λ k. tells .no (λ t lo ht. sym (⊕-eq _ _ (sym (as-it-stands away off t) ∙ k t ht)));
-      }
+      even-holds away off even t ht = as-it-stands away off t ∙ ⊕-same _ _ (sym (even t (omega arith) ht))
 
--- one chain after another
-pub passed-next : (g : Gone) (s out : List ℕ) (p : ℕ) → ((q : ℕ) → q < p → Passes g s out q) → Passes g s out p → (q : ℕ) → q < p + 1 → Passes g s out q
-passed-next g s out p before here q h = at (decLt q p)
-  where
-    at : Dec (q < p) → Passes g s out q
-    at (yes l) = before q l
-    at (no l) = let e : p ≡ q = omega arith in subst (Passes g s out) e here
+      pub holds-even : g .shape .m ≤ distance (g .shape) (g .first) p → g .shape .m ≤ h → Holds g s out p → Even (g .shape) s p 0 (g .shape .w)
+      unfolding chain
+      holds-even away off holds t lo ht = sym (⊕-eq _ _ (sym (as-it-stands away off t) ∙ holds t ht))
+
+      -- where it is asked of a stretch of one chain
+      pub even-tells : (r : Bool) → g .shape .m ≤ distance (g .shape) (g .first) p → g .shape .m ≤ h
+          → Tells ((i : ℕ) → i < 1 → Even (g .shape) s (right (g .shape .n) p i) 0 (g .shape .w)) r → Tells (Holds g s out p) r
+      even-tells r away off tells = record {
+        yes = λ k. even-holds away off (subst row (at 0 (omega arith)) (tells .yes k 0 (omega arith)));
+        no = λ k. tells .no (λ i hi. subst row (sym (at i hi)) (holds-even away off k));
+      }
+        where
+          row : ℕ → Type 0
+          row q = Even (g .shape) s q 0 (g .shape .w)
+
+          at : (i : ℕ) → i < 1 → right (g .shape .n) p i ≡ p
+          at i hi = let z : i ≡ 0 = omega arith in ap (right (g .shape .n) p) z ∙ right-zero (g .shape .n) p hp

@@ -1,19 +1,19 @@
 -- A grid changed in two columns, seen by a chain that has the first of them on its left and the second on its right, or not at all.
--- To cite: distance-of, distance-none, back-near, near-back, changed-chain, unchanged-chain.
+-- To cite: distance-of, distance-none, distance-near, changed-chain, unchanged-chain.
 use mathlib.Core.Path.{_≡_, refl, sym, ap, ap₂, _∙_}
 use mathlib.Core.Logic.{_≢_, _⊎_, inl, inr, ⊎-elim}
 use mathlib.Core.Bool.{cond}
-use Prim.Native.Nat.{ℕ, zero, suc, _+_, _-_, _≤_, _<_}
+use Prim.Native.Nat.{ℕ, _≤_, _<_}
 use native.Mathlib.Omega.{arith}
 use native.Mathlib.Decide.{decLt, ℕ-discrete}
 use lib.Dec.{ltb}
 use borrow.Author.Tests.{eq-eqb, ne-eqb, lt-ltb, le-ltb}
 use Rattle.xor.specs.Xor.{_⊕_}
-use Rattle.xor.proofs.XorLaws.{⊕-laws, ⊕-same}
+use Rattle.xor.proofs.XorLaws.{⊕-laws}
 use Rattle.shape.specs.declared.Shape.{Shape}
 use Rattle.shape.specs.Good.{Good}
 use Rattle.shape.specs.Step.{left, right}
-use Rattle.shape.proofs.GoodLaws.{good-m, good-wide, good-room}
+use Rattle.shape.proofs.GoodLaws.{good-m, good-room}
 use Rattle.shape.proofs.StepLaws.{left-zero, left-is, right-is, far}
 use Rattle.rule.specs.Rule.{Grid, chain}
 use Rattle.rule.specs.Outer.{walk}
@@ -21,7 +21,7 @@ use Rattle.rule.proofs.ChainLaws.{chain-xor, chain-cong, chain-none}
 use Rattle.rule.proofs.OrderLaws.{walk-lt, walk-reach, walk-round}
 use Rattle.rule.proofs.Only.{only, only-there, only-none, hit-left, hit-right}
 use Rattle.summing.specs.Sources.{beside, besides}
-use Rattle.agreeing.specs.Agreeing.{distance, Back}
+use Rattle.agreeing.specs.Agreeing.{distance}
 
 -- ---- distances
 
@@ -47,38 +47,6 @@ module _ (sh : Shape) (a b : ℕ) where
       at (yes u) (yes v) = (u, v)
       at (no u) v = absurd (omega (arith, distance-none (inl (omega arith))))
       at (yes u) (no v) = absurd (omega (arith, distance-none (inr (omega arith))))
-
--- a column is near where the way back from it is so
-module _ (sh : Shape) (good : Good sh) (a b : ℕ) where
-  both : (distance sh a b < sh .m → Back sh (distance sh b a)) × (Back sh (distance sh b a) → distance sh a b < sh .m)
-  both = at (decLt a (sh .n)) (decLt b (sh .n))
-    where
-      none : distance sh a b ≡ sh .m → distance sh b a ≡ sh .m → (distance sh a b < sh .m → Back sh (distance sh b a)) × (Back sh (distance sh b a) → distance sh a b < sh .m)
-      none u v = ((λ h. absurd (omega (arith, u))), ⊎-elim (λ z. absurd (omega (arith, v, z, good-m sh good))) (λ z. absurd (omega (arith, v, z, good-wide sh good, good .m-fits .0))))
-
-      at : Dec (a < sh .n) → Dec (b < sh .n) → (distance sh a b < sh .m → Back sh (distance sh b a)) × (Back sh (distance sh b a) → distance sh a b < sh .m)
-      at (no u) v = none (distance-none sh a b (inl (omega arith))) (distance-none sh b a (inr (omega arith)))
-      at (yes u) (no v) = none (distance-none sh a b (inr (omega arith))) (distance-none sh b a (inl (omega arith)))
-      at (yes u) (yes v) = on (distance-of sh a b u v) (distance-of sh b a v u) (ℕ-discrete a b)
-        where
-          on : distance sh a b ≡ walk (sh .n) a b → distance sh b a ≡ walk (sh .n) b a
-              → Dec (a ≡ b) → (distance sh a b < sh .m → Back sh (distance sh b a)) × (Back sh (distance sh b a) → distance sh a b < sh .m)
-          on e f (yes q) =
-              let l = walk-lt (sh .n) a b u v in
-              let k = walk-lt (sh .n) b a v u in
-              let here : walk (sh .n) a b ≡ 0 = ⊎-elim (λ z. omega arith) (λ z. omega (arith, l)) (walk-reach (sh .n) a b u v) in
-              let there : walk (sh .n) b a ≡ 0 = ⊎-elim (λ z. omega arith) (λ z. omega (arith, k)) (walk-reach (sh .n) b a v u) in
-              ((λ h. inl (omega (arith, f, there))), λ h. omega (arith, e, here, good-m sh good))
-          on e f (no q) =
-              let r = walk-round (sh .n) a b u v q in
-              let l = walk-lt (sh .n) a b u v in
-              ((λ h. inr (omega (arith, e, f, r, h))), ⊎-elim (λ z. absurd (omega (arith, f, r, l, z))) (λ z. omega (arith, e, f, r, z, good-wide sh good, good .m-fits .0)))
-
-  pub near-back : distance sh a b < sh .m → Back sh (distance sh b a)
-  near-back = both .0
-
-  pub back-near : Back sh (distance sh b a) → distance sh a b < sh .m
-  back-near = both .1
 
 -- ---- what chain p sees of the columns f and g, if it is near neither f on its right nor g on its left
 

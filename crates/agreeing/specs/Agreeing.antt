@@ -1,9 +1,9 @@
 -- AGREEMENT (document 01): whether the chains from which no lost symbol is solved hold, with the lost columns in place. Definitions only.
 use mathlib.Core.Path.{_≡_}
-use mathlib.Core.Logic.{_≢_, _⊎_}
+use mathlib.Core.Logic.{_≢_}
 use mathlib.Core.Bool.{cond}
 use mathlib.Core.List.{List}
-use Prim.Native.Nat.{ℕ, _+_, _-_, _≤_, _<_}
+use Prim.Native.Nat.{ℕ, _+_, _*_, _≤_, _<_}
 use lib.Dec.{eqb, ltb}
 use lib.ListN.{length, getD}
 use Rattle.shape.specs.declared.Shape.{Shape}
@@ -40,9 +40,13 @@ Agreed g s out = (p : ℕ) → p < g .shape .n → Passes g s out p
 unfoldable pub distance : Shape → ℕ → ℕ → ℕ
 distance sh a b = cond (ltb a (sh .n)) (cond (ltb b (sh .n)) (walk (sh .n) a b) (sh .m)) (sh .m)
 
--- a way of e columns is none, or fewer than m columns lead back
-abbrev pub Back : Shape → ℕ → Type 0
-Back sh e = (e ≡ 0) ⊎ (sh .n - sh .m < e)
+-- how far up from first the chains begin that lie beyond the lost columns, where it is `end` from first up to second
+abbrev pub past : Gone → ℕ → ℕ
+past g end = cond (ltb (g .second) (g .shape .n)) (end + g .shape .m) (g .shape .m)
+
+-- the lost columns are in order: there is a second only where there is a first, and the walk from first up to it is the shorter
+abbrev pub In-order : Gone → Type 0
+In-order g = g .second < g .shape .n → (g .first < g .shape .n) × (2 * walk (g .shape .n) (g .first) (g .second) ≤ g .shape .n)
 
 -- the lost columns of the stripe s, which are not the same, have their room in the buffer `out`
 pub record Patchable (g : Gone) (s out : List ℕ) : Type 0 where

@@ -1,55 +1,56 @@
 // Whether a chain of the stripe holds as it stands, a block at a time as in encode: its parity symbol against the others.
 ghost use mathlib.Core.Path.{_≡_};
-ghost use Prim.Native.Nat.{_%_, _≤_, _<_};
+ghost use Prim.Native.Nat.{ℕ, _%_, _≤_, _<_};
 ghost use lib.ListN.{length};
-ghost use Rattle.xor.specs.Asked.{Tells};
+ghost use Rattle.xor.specs.Tells.{Tells};
 ghost use Rattle.shape.specs.Good.{Good, size};
-ghost use Rattle.shape.specs.Walk.{Walks};
-ghost use Rattle.agreeing.specs.Holding.{Even, EvenPart};
+ghost use Rattle.shape.specs.Step.{right};
+ghost use Rattle.walking.specs.Walk.{Walks};
+ghost use Rattle.summing.specs.Matching.{Found};
+ghost use Rattle.agreeing.specs.Holding.{others-at, parity-at, Even};
 use chain::others;
 use shape::Shape;
-use shape::Walk;
+use solving::above;
+use walking::Walk;
+use walking::along;
 
-// Whether the first `whole` bytes of the chain that wk walks, a number of whole blocks, obey the rule.
-fn even_blocks(sh: Shape, s: &[u8], wk: Walk, whole: usize) -> bool
-    requires { ⌜ (Good sh) × (length (now s) ≡ size sh) × (Walks sh (wk .p) wk) × (whole ≤ sh .w) × (whole % 128 ≡ 0) ⌝ }
-    ensures { λ r. ⌜ Tells (Even sh (now (s .entry)) (wk .p) 0 whole) r ⌝ }
+// Whether the first `front` bytes of the chain that wk walks, a number of half blocks, obey the rule.
+fn even_front(sh: Shape, s: &[u8], wk: Walk, front: usize) -> bool
+    requires { ⌜ (Good sh) × (length (now s) ≡ size sh) × (Walks sh (wk .p) wk) × (front ≤ sh .w) × (front % 64 ≡ 0) ⌝ }
+    ensures { λ r. ⌜ Tells (Even sh (now (s .entry)) (wk .p) 0 front) r ⌝ }
 {
+    let whole = front - front % 128;
     let mut from = 0;
     while from < whole {
         let acc = others(sh, s, wk, from, 128);
-        if !xor::same(&acc, s, wk.at + from, 128) {
+        if !looking::same(&acc, s, wk.at + from, 128) {
             return false;
         }
         from += 128;
     }
-    true
+    if whole == front {
+        return true;
+    }
+    let acc = others(sh, s, wk, whole, 64);
+    looking::same(&acc, s, wk.at + whole, 64)
 }
 
-// Gives how many of the bytes from `from` on obey the rule, as many as the longest length that fits; 0 if they do not.
+// Gives how many of the bytes from `from` on obey the rule, 16 or 1 as they fit; 0 if they do not.
 fn even_some(sh: Shape, s: &[u8], wk: Walk, from: usize) -> usize
     requires { ⌜ (Good sh) × (length (now s) ≡ size sh) × (Walks sh (wk .p) wk) × (from < sh .w) ⌝ }
-    ensures { λ r. ⌜ EvenPart sh (now (s .entry)) (wk .p) from r ⌝ }
+    ensures { λ r. ⌜ Found (others-at sh (now (s .entry)) (wk .p)) (parity-at sh (now (s .entry)) (wk .p)) from (sh .w) r ⌝ }
 {
-    let left = sh.w - from;
     let at = wk.at + from;
-    if left < 16 {
+    if sh.w - from < 16 {
         let acc = others(sh, s, wk, from, 1);
-        if xor::same(&acc, s, at, 1) {
+        if looking::same(&acc, s, at, 1) {
             return 1;
         }
         return 0;
     }
-    if left < 64 {
-        let acc = others(sh, s, wk, from, 16);
-        if xor::same(&acc, s, at, 16) {
-            return 16;
-        }
-        return 0;
-    }
-    let acc = others(sh, s, wk, from, 64);
-    if xor::same(&acc, s, at, 64) {
-        return 64;
+    let acc = others(sh, s, wk, from, 16);
+    if looking::same(&acc, s, at, 16) {
+        return 16;
     }
     0
 }
@@ -72,14 +73,31 @@ fn even_tail(sh: Shape, s: &[u8], wk: Walk, start: usize) -> bool
 }
 
 // Whether chain p obeys the rule.
-pub(crate) fn even(sh: Shape, s: &[u8], p: usize) -> bool
+fn even(sh: Shape, s: &[u8], p: usize) -> bool
     requires { ⌜ (Good sh) × (length (now s) ≡ size sh) × (p < sh .n) ⌝ }
     ensures { λ r. ⌜ Tells (Even sh (now (s .entry)) p 0 (sh .w)) r ⌝ }
 {
-    let wk = sh.walk(p);
-    let whole = sh.w - sh.w % 128;
-    if even_blocks(sh, s, wk, whole) {
-        return even_tail(sh, s, wk, whole);
+    let wk = along(sh, p);
+    let front = sh.w - sh.w % 64;
+    if even_front(sh, s, wk, front) {
+        return even_tail(sh, s, wk, front);
     }
     false
+}
+
+// Whether a stretch of `count` chains from `start` on obeys the rule.
+pub(crate) fn all_even(sh: Shape, s: &[u8], start: usize, count: usize) -> bool
+    requires { ⌜ (Good sh) × (length (now s) ≡ size sh) × (start < sh .n) × (count ≤ sh .n) ⌝ }
+    ensures { λ r. ⌜ Tells ((i : ℕ) → i < count → Even sh (now (s .entry)) (right (sh .n) start i) 0 (sh .w)) r ⌝ }
+{
+    let mut p = start;
+    let mut i = 0;
+    while i < count {
+        if !even(sh, s, p) {
+            return false;
+        }
+        p = above(sh.n, p, 1);
+        i += 1;
+    }
+    true
 }

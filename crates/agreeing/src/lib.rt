@@ -1,19 +1,21 @@
 // Whether the survivors agree: each chain from which no lost symbol is solved, tested with the lost columns in place.
 ghost use mathlib.Core.Path.{_≡_};
 ghost use mathlib.Core.Bool.{cond};
-ghost use Prim.Native.Nat.{_+_, _≤_, _<_};
+ghost use Prim.Native.Nat.{ℕ, _+_, _≤_, _<_};
 ghost use lib.Dec.{ltb};
-ghost use Rattle.xor.specs.Asked.{Tells};
+ghost use Rattle.xor.specs.Tells.{Tells};
 ghost use Rattle.shape.specs.Good.{Good};
 ghost use Rattle.shape.specs.Place.{place};
-ghost use Rattle.chain.specs.Places.{Table};
-ghost use Rattle.agreeing.specs.Agreeing.{distance, Back, Uses, Holds, Passes, Patchable, Agreed};
-use crate::holding::even;
+ghost use Rattle.shape.specs.Step.{right};
+ghost use Rattle.listing.specs.Places.{Table};
+ghost use Rattle.agreeing.specs.Agreeing.{distance, past, Uses, Holds, Patchable, In-order, Agreed};
+use crate::holding::all_even;
 use shape::Shape;
 use solving::Gone;
+use solving::above;
 use solving::below;
 use summing::matches;
-use summing::sources::sources;
+use summing::sources;
 
 mod holding;
 
@@ -29,14 +31,6 @@ fn apart(sh: Shape, a: usize, b: usize) -> usize
         return sh.m;
     }
     below(sh.n, b, a)
-}
-
-// Whether a way of e columns is none, or so far round that fewer than m columns lead back.
-fn back(sh: Shape, e: usize) -> bool
-    requires { ⌜ Good sh ⌝ }
-    ensures { λ r. ⌜ Tells (Back sh e) r ⌝ }
-{
-    e == 0 || sh.n - sh.m < e
 }
 
 // Where the symbol of height h of the column at `base` of the buffer stands, if there is such a height.
@@ -88,44 +82,70 @@ fn agrees<'a>(
     let sh = x.shape;
     let u: &'a [u8] = if d < sh.m { out } else { s };
     let b = spot(sh, x.two, h);
-    let mut list = chain::shifted(table, sh, p);
-    chain::wrap(&mut list, sh, p);
+    let mut list = listing::shifted(table, sh, p);
+    listing::wrap(&mut list, sh, p);
     let from = sources(&mut list, sh, p, 1, compared(sh, d), 0, h, b);
     matches(sh.w, s, out, &list, from, u, compared_at(x, p, d))
 }
 
-// Whether chain p holds or a lost symbol is solved from it, so that it holds by that.
-fn passes<'a>(s: &'a [u8], out: &'a [u8], table: &[u16; 32], x: Gone, p: usize) -> bool
-    requires { ⌜ (Patchable x (now s) (now out)) × (p < x .shape .n) × (Table (x .shape) (now table)) ⌝ }
-    ensures { λ r. ⌜ Tells (Passes x (now (s .entry)) (now (out .entry)) p) r ⌝ }
+// Whether chain p, from which no lost symbol is solved, holds; first is d columns to its left.
+fn holds<'a>(s: &'a [u8], out: &'a [u8], table: &[u16; 32], x: Gone, p: usize, d: usize) -> bool
+    requires { ⌜ (Patchable x (now s) (now out)) × (p < x .shape .n) × (¬ Uses x p) × (Table (x .shape) (now table)) × (d ≡ distance (x .shape) (x .first) p) ⌝ }
+    ensures { λ r. ⌜ Tells (Holds x (now (s .entry)) (now (out .entry)) p) r ⌝ }
 {
     let sh = x.shape;
-    let d = apart(sh, x.first, p);
     let h = apart(sh, p, x.second);
-    if back(sh, d) {
-        return true;
-    }
-    if back(sh, h) {
-        return true;
-    }
     if d < sh.m || h < sh.m {
         return agrees(s, out, table, x, p, d, h);
     }
-    even(sh, s, p)
+    all_even(sh, s, p, 1)
 }
 
-// Whether every chain from which no lost symbol is solved holds.
-pub fn agree<'a>(s: &'a [u8], out: &'a [u8], x: Gone) -> bool
-    requires { ⌜ Patchable x (now s) (now out) ⌝ }
-    ensures { λ r. ⌜ Tells (Agreed x (now (s .entry)) (now (out .entry))) r ⌝ }
+// Whether the chains that are less than `end` up from first hold.
+fn between<'a>(s: &'a [u8], out: &'a [u8], x: Gone, end: usize) -> bool
+    requires { ⌜ (Patchable x (now s) (now out)) × (x .first < x .shape .n) × (end ≤ x .shape .n) × ((e : ℕ) → 1 ≤ e → e < end → ¬ Uses x (right (x .shape .n) (x .first) e)) ⌝ }
+    ensures { λ r. ⌜ Tells ((e : ℕ) → 1 ≤ e → e < end → Holds x (now (s .entry)) (now (out .entry)) (right (x .shape .n) (x .first) e)) r ⌝ }
 {
-    let table = chain::table(x.shape);
-    let mut p = 0;
-    while p < x.shape.n {
-        if !passes(s, out, &table, x, p) {
+    if end <= 1 {
+        return true;
+    }
+    let table = listing::table(x.shape);
+    let mut p = x.first;
+    let mut e = 1;
+    while e < end {
+        p = above(x.shape.n, p, 1);
+        if !holds(s, out, &table, x, p, e) {
             return false;
         }
-        p += 1;
+        e += 1;
     }
     true
+}
+
+// How far up from first the chains begin that lie beyond the lost columns and have nothing staged; second, if there is one, is `end` up from first.
+fn beyond(x: Gone, end: usize) -> usize
+    requires { ⌜ (x .shape .m ≤ 16) × (end ≤ 64) ⌝ }
+    ensures { λ r. ⌜ r ≡ past x end ⌝ }
+{
+    if x.second < x.shape.n {
+        return end + x.shape.m;
+    }
+    x.shape.m
+}
+
+// Whether every chain from which no lost symbol is solved holds: those between first and second, or as far up as first's symbols reach, and those beyond.
+pub fn agree<'a>(s: &'a [u8], out: &'a [u8], x: Gone) -> bool
+    requires { ⌜ (Patchable x (now s) (now out)) × (In-order x) ⌝ }
+    ensures { λ r. ⌜ Tells (Agreed x (now (s .entry)) (now (out .entry))) r ⌝ }
+{
+    let sh = x.shape;
+    if sh.n <= x.first {
+        return all_even(sh, s, 0, sh.n);
+    }
+    let end = apart(sh, x.first, x.second);
+    if !between(s, out, x, end) {
+        return false;
+    }
+    let from = beyond(x, end);
+    all_even(sh, s, above(sh.n, x.first, from), sh.n + 1 - sh.m - from)
 }

@@ -7,7 +7,7 @@ use crate::trying::altered;
 use crate::trying::none;
 use crate::trying::pairs;
 use crate::trying::singles;
-use shape::Answer;
+use answer::Answer;
 use shape::Shape;
 use trial::pattern;
 use trial::sum;

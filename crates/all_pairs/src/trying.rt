@@ -37,7 +37,7 @@ fn lose(shape: Shape, stripe: &mut [u8], column: usize, other: &[u8]) {
     let m = shape.m;
     let mut row = 0;
     while row < m {
-        stripe::raw_store(shape, stripe, column, row, other);
+        storing::raw_store(shape, stripe, column, row, other);
         row += 1;
     }
 }

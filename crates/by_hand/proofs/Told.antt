@@ -4,10 +4,10 @@ use mathlib.Core.List.{List, [], _∷_}
 use Prim.Native.Nat.{ℕ, _*_, _≤_}
 use lib.ListN.{replicate}
 use Rattle.shape.specs.declared.Shape.{Shape}
-use Rattle.shape.specs.declared.Answer.{Answer}
-use Rattle.shape.specs.declared.Answer.the-variants.{Done}
+use Rattle.answer.specs.declared.Answer.{Answer}
+use Rattle.answer.specs.declared.Answer.the-variants.{Done}
 use Rattle.shape.specs.Place.{column-length}
-use Rattle.shape.specs.Answers.{number}
+use Rattle.answer.specs.Answers.{number}
 use Rattle.rule.specs.declared.Losses.{Losses}
 use Rattle.checking.specs.declared.Checked.{Checked}
 use Rattle.locating.specs.declared.Located.{Located}
@@ -15,16 +15,16 @@ use Rattle.locating.specs.declared.Damage.{Damage}
 use Rattle.encoding.specs.Encode.{Encode}
 use Rattle.checking.specs.Check.{Check}
 use Rattle.locating.specs.Locate.{Locate}
-use Rattle.stripe.specs.Write.{SmallWrite}
-use Rattle.stripe.specs.Store.{RawStore}
+use Rattle.writing.specs.Write.{SmallWrite}
+use Rattle.storing.specs.Store.{RawStore}
 use Rattle.rebuild.specs.Rebuild.{Rebuild}
 use Rattle.encoding.proofs.EncodeLaws.{encode-one}
 use Rattle.checking.proofs.CheckLaws.{check-one}
 use Rattle.locating.proofs.LocateLaws.{locate-one}
-use Rattle.stripe.proofs.WriteLaws.{write-one}
-use Rattle.stripe.proofs.StoreLaws.{store-one}
+use Rattle.writing.proofs.WriteLaws.{write-one}
+use Rattle.storing.proofs.StoreLaws.{store-one}
 use Rattle.rebuild.proofs.RebuildLaws.{rebuild-one}
-use Rattle.demands.specs.Cases.{Case, Holds, woven, five, sh₅, information, parity, stripe₅}
+use Rattle.demands.specs.Cases.{Case, Holds, woven, sh₅, information, parity, stripe₅}
 use Rattle.demands.proofs.Five.{p5}
 
 -- the shape and the stripe of a call put in their places

@@ -2,7 +2,7 @@
 // Each check follows from the contracts: it is proved, and the run shows what a person would work out on paper.
 ghost use mathlib.Core.Path.{_≡_};
 ghost use Rattle.locating.specs.declared.Damage.the-variants.{Column, Several};
-ghost use Rattle.xor.specs.Asked.{Tells};
+ghost use Rattle.xor.specs.Tells.{Tells};
 ghost use Rattle.demands.specs.Cases.{stripe₅, cleared-0, flipped-0-1, sh₅};
 use check::expect;
 use check::same;
@@ -69,7 +69,7 @@ fn around_the_edge() {
 // P8: a small write of FF to column 4.
 fn written() {
     let mut stripe = encoded();
-    let answer = stripe::small_write(five(), &mut stripe, 4, 0, &[255]);
+    let answer = writing::small_write(five(), &mut stripe, 4, 0, &[255]);
     expect(answer.number() == 0);
     expect(same(&stripe, &[1, 253, 2, 5, 4, 10, 8, 251, 255, 9]));
     show(b"P8  after a small write of ff to column 4:", &stripe);
@@ -102,7 +102,7 @@ fn cleared() -> [u8; 10]
     ensures { λ r. ⌜ r ≡ cleared-0 ⌝ }
 {
     let mut stripe = encoded();
-    let answer = stripe::raw_store(five(), &mut stripe, 0, 0, &[0]);
+    let answer = storing::raw_store(five(), &mut stripe, 0, 0, &[0]);
     expect(answer.number() == 0);
     stripe
 }
@@ -127,7 +127,7 @@ fn flipped() -> [u8; 10]
     ensures { λ r. ⌜ r ≡ flipped-0-1 ⌝ }
 {
     let mut stripe = cleared();
-    let answer = stripe::raw_store(five(), &mut stripe, 1, 0, &[3]);
+    let answer = storing::raw_store(five(), &mut stripe, 1, 0, &[3]);
     expect(answer.number() == 0);
     stripe
 }

@@ -10,15 +10,15 @@ use lib.ListN.{length, length-take}
 use Rattle.shape.specs.declared.Shape.{Shape}
 use Rattle.shape.specs.Good.{Good, most}
 use Rattle.shape.specs.Place.{column-length}
-use Rattle.shape.proofs.AnswersLaws.{first-clear}
+use Rattle.answer.proofs.AnswersLaws.{first-clear}
 use Rattle.shape.proofs.GoodLaws.{good-m, good-w, stripe-clear}
 use Rattle.shape.proofs.ColumnLaws.{length-column}
 use Rattle.rule.specs.declared.Losses.{Losses}
 use Rattle.rule.specs.Losses.{Lost}
 use Rattle.rule.proofs.Reading.{lost?}
-use Rattle.stripe.specs.Column.{column-table, ColumnRead}
-use Rattle.stripe.specs.Handed.{Handed}
-use Rattle.stripe.proofs.HandedLaws.{column-ends}
+use Rattle.handing.specs.Column.{column-table, ColumnRead}
+use Rattle.handing.specs.Handed.{Handed}
+use Rattle.handing.proofs.HandedLaws.{column-ends}
 use Rattle.filling.specs.Choose.{Chosen, Choose}
 use Rattle.filling.specs.HandedBack.{HandedBack}
 use Rattle.filling.proofs.FillLaws.{Fill-good, fill-done}

@@ -7,8 +7,8 @@ use native.Mathlib.Omega.{arith}
 use native.Mathlib.Decide.{ℕ-discrete}
 use denote.Ref.{RefT}
 use lib.ListN.{length}
-use Rattle.shape.specs.declared.Answer.{Answer}
-use Rattle.shape.specs.Answers.{number}
+use Rattle.answer.specs.declared.Answer.{Answer}
+use Rattle.answer.specs.Answers.{number}
 use Rattle.shape.specs.Own.{PartOf}
 use Rattle.rule.specs.Losses.{Lost}
 use Rattle.rule.proofs.Reading.{lost?}
@@ -21,9 +21,9 @@ use Rattle.checking.proofs.CheckLaws.{check-one}
 use Rattle.locating.proofs.LocateLaws.{locate-one}
 use Rattle.stock.proofs.PricesLaws.{prices-one}
 use Rattle.stock.proofs.StockLaws.{stock-one}
-use Rattle.stripe.proofs.WriteLaws.{write-one}
-use Rattle.stripe.proofs.StoreLaws.{store-one}
-use Rattle.stripe.proofs.ColumnLaws.{column-one}
+use Rattle.writing.proofs.WriteLaws.{write-one}
+use Rattle.storing.proofs.StoreLaws.{store-one}
+use Rattle.handing.proofs.ColumnLaws.{column-one}
 use Rattle.rebuild.proofs.RebuildLaws.{rebuild-one}
 use Rattle.filling.proofs.FillLaws.{fill-one}
 use Rattle.filling.proofs.ChooseLaws.{choose-one}

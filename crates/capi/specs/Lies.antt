@@ -9,7 +9,7 @@ use Rattle.shape.specs.declared.Shape.{Shape}
 use Rattle.shape.specs.Own.{PartOf}
 use Rattle.rule.specs.declared.Losses.{Losses}
 use Rattle.rule.specs.Losses.{Lost}
-use Rattle.stripe.specs.Handed.{Handed}
+use Rattle.handing.specs.Handed.{Handed}
 use Rattle.filling.specs.HandedBack.{HandedBack}
 
 -- the numbers tell where in s the part r lies: its start, counted from the start of s, and its length; of a part of length 0 they are zeros

@@ -7,8 +7,8 @@ use denote.Ref.{RefT}
 use Rattle.shape.specs.declared.Shape.{Shape}
 use Rattle.rule.specs.declared.Losses.{Losses}
 use Rattle.encoding.specs.Encode.{Encode}
-use Rattle.stripe.specs.Write.{SmallWrite}
-use Rattle.stripe.specs.Store.{RawStore}
+use Rattle.writing.specs.Write.{SmallWrite}
+use Rattle.storing.specs.Store.{RawStore}
 use Rattle.filling.specs.Fill.{Fill}
 use Rattle.capi.specs.Told.{Numbered, RebuildTold, CheckTold, LocateTold, PricesTold, StockTold}
 use Rattle.capi.specs.Lies.{ColumnTold, ChooseTold}

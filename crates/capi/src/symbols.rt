@@ -1,12 +1,12 @@
 // The calls on one symbol or one column: small write, raw store, column.
 ghost use Rattle.shape.specs.Good.{shape};
-ghost use Rattle.stripe.specs.Write.{SmallWrite};
-ghost use Rattle.stripe.specs.Store.{RawStore};
+ghost use Rattle.writing.specs.Write.{SmallWrite};
+ghost use Rattle.storing.specs.Store.{RawStore};
 ghost use Rattle.capi.specs.Told.{Numbered};
 ghost use Rattle.capi.specs.Lies.{ColumnTold};
 use shape::Shape;
-use stripe::raw_store;
-use stripe::small_write;
+use storing::raw_store;
+use writing::small_write;
 
 // Replaces an information symbol and XORs the change into its two parity symbols.
 #[no_mangle]
@@ -54,7 +54,7 @@ pub extern "C" fn bangsorut_column(
 )
     ensures { λ _. ⌜ ColumnTold (shape m n w) (stripe .entry) column (now (part .exit)) ⌝ }
 {
-    let handed = stripe::column(Shape { m: m, n: n, w: w }, stripe, column);
+    let handed = handing::column(Shape { m: m, n: n, w: w }, stripe, column);
     let length = handed.len();
     *part = [column * length, length];
 }

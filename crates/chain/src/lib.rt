@@ -3,19 +3,13 @@
 ghost use Prim.Native.Nat.{ℕ, _+_, _<_};
 ghost use mathlib.Core.Path.{_≡_};
 ghost use lib.ListN.{length};
-ghost use Rattle.xor.specs.Block.{longest, Block};
+ghost use Rattle.block.specs.Block.{longest, Block};
 ghost use Rattle.shape.specs.Place.{byte};
-ghost use Rattle.shape.specs.Walk.{Ways, Walks};
+ghost use Rattle.walking.specs.Walk.{Ways, Walks};
 ghost use Rattle.rule.specs.Rule.{others, differs};
 ghost use Rattle.chain.specs.Chain.{Part, Ran};
 use shape::Shape;
-use shape::Walk;
-
-mod listing;
-
-pub use listing::shifted;
-pub use listing::table;
-pub use listing::wrap;
+use walking::Walk;
 
 // Adds into acc the two symbols of each height from start to end - 1, in the columns l and r at height `base` and a column further apart each height.
 fn run(
@@ -36,7 +30,7 @@ fn run(
     let mut d = start;
     while d < end {
         let further = d - base;
-        xor::pair(
+        block::pair(
             acc,
             s,
             sh.place(d, l - further) + from,
@@ -62,7 +56,7 @@ pub fn others(sh: Shape, s: &[u8], wk: Walk, from: usize, len: usize) -> [u8; 12
     ensures { λ r. ⌜ Block (λ t. others (sh .m) (sh .n) (byte sh (now (s .entry)) (from + t)) (wk .p)) len r ⌝ }
 {
     let mut acc = [0u8; 128];
-    xor::both(&mut acc, s, wk.x + from, s, wk.y + from, len);
+    block::both(&mut acc, s, wk.x + from, s, wk.y + from, len);
     below(&mut acc, sh, s, wk, from, len);
     acc
 }
@@ -73,8 +67,8 @@ pub fn difference(sh: Shape, s: &[u8], wk: Walk, from: usize, len: usize) -> [u8
     ensures { λ r. ⌜ Block (λ t. differs sh (now (s .entry)) (wk .p) (from + t)) len r ⌝ }
 {
     let mut acc = [0u8; 128];
-    xor::both(&mut acc, s, wk.x + from, s, wk.y + from, len);
-    xor::add(&mut acc, s, wk.at + from, len);
+    block::both(&mut acc, s, wk.x + from, s, wk.y + from, len);
+    block::add(&mut acc, s, wk.at + from, len);
     below(&mut acc, sh, s, wk, from, len);
     acc
 }

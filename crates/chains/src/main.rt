@@ -1,17 +1,14 @@
 // A picture for people: it reads m, n and perhaps p as words of standard input, and prints the stripe as a grid with chain p marked, or with each chain in turn.
 // What cannot be drawn gets one sentence on standard error instead.
 ghost use Rattle.shape.specs.Good.{Good};
-ghost use Rattle.chains.specs.Words.{Refused};
-use crate::picture::every;
-use crate::picture::picture;
-use crate::words::bytes;
-use crate::words::next_word;
-use crate::words::number;
-use shape::Answer;
+ghost use Rattle.words.specs.Words.{Refused};
+use answer::Answer;
+use picture::every;
+use picture::picture;
 use shape::Shape;
-
-mod picture;
-mod words;
+use words::bytes;
+use words::next_word;
+use words::number;
 
 // As many bytes as the buffer of the input has; an input that fills it may be cut off.
 const ROOM: usize = 4096;

@@ -8,7 +8,8 @@ use native.Mathlib.Omega.{arith}
 use native.Mathlib.Decide.{ℕ-discrete}
 use borrow.Author.Tests.{eqb-true, eq-eqb, not-false}
 use Rattle.shape.specs.declared.Shape.{Shape}
-use Rattle.shape.proofs.OutcomeLaws.{call-one, call-some, stripe-ready}
+use Rattle.answer.proofs.OutcomeLaws.{call-one, call-some}
+use Rattle.shape.proofs.Ready.{stripe-ready}
 use Rattle.rule.specs.Rule.{Obeys}
 use Rattle.rule.proofs.RuleLaws.{obeys-differs}
 use Rattle.checking.specs.declared.Checked.{Checked}

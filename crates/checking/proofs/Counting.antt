@@ -14,7 +14,7 @@ use lib.ListN.{length, getD, set}
 use lib.Seq.{getD-set-same, getD-set-other}
 use Rattle.xor.specs.Total.{total}
 use Rattle.xor.proofs.TotalLaws.{total-join, total-zero}
-use Rattle.xor.proofs.OnesLaws.{ones-zero, ones-none, total-clear}
+use Rattle.looking.proofs.OnesLaws.{ones-zero, ones-none, total-clear}
 use Rattle.shape.specs.declared.Shape.{Shape}
 use Rattle.rule.specs.Rule.{differs}
 use Rattle.checking.specs.Check.{count, breaks, chain-bits}

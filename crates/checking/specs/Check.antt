@@ -7,8 +7,9 @@ use lib.Dec.{eqb}
 use lib.Count.{ones}
 use Rattle.xor.specs.Total.{total}
 use Rattle.shape.specs.declared.Shape.{Shape}
-use Rattle.shape.specs.Answers.{number, stripe-table}
-use Rattle.shape.specs.Outcome.{Outcome}
+use Rattle.answer.specs.Answers.{number}
+use Rattle.shape.specs.Refusals.{stripe-table}
+use Rattle.answer.specs.Outcome.{Outcome}
 use Rattle.rule.specs.Rule.{differs}
 use Rattle.checking.specs.declared.Checked.{Checked}
 

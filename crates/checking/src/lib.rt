@@ -2,19 +2,17 @@
 // A block of a chain is counted only where it is not zero, so a sound stripe costs its XORs and no more.
 ghost use mathlib.Core.Path.{_≡_};
 ghost use Prim.Native.Nat.{_+_, _*_, _≤_, _<_};
-ghost use lib.Count.{ones};
 ghost use lib.ListN.{length};
-ghost use Rattle.xor.specs.Total.{total};
 ghost use Rattle.shape.specs.Good.{Good, size};
-ghost use Rattle.shape.specs.Walk.{Walks};
-ghost use Rattle.rule.specs.Rule.{differs};
+ghost use Rattle.walking.specs.Walk.{Walks};
 ghost use Rattle.chain.specs.Chain.{Part};
 ghost use Rattle.checking.specs.Check.{Check};
 ghost use Rattle.checking.specs.Bits.{Counts, Chain, Bits};
+use answer::Answer;
 use chain::difference;
-use shape::Answer;
 use shape::Shape;
-use shape::Walk;
+use walking::Walk;
+use walking::along;
 
 // What check reports: how many chains are broken, and by how many bits in all.
 pub struct Checked {
@@ -29,8 +27,8 @@ fn tally(bits: &mut u16, sh: Shape, s: &[u8], wk: Walk, from: usize, len: usize)
     ensures { λ r. ⌜ (r ≡ len) × (Counts sh (now (s .entry)) (wk .p) from (from + r) (now (bits .entry)) (now (bits .exit))) ⌝ }
 {
     let acc = difference(sh, s, wk, from, len);
-    if !xor::none(&acc, len) {
-        *bits += xor::count(&acc, len);
+    if !looking::none(&acc, len) {
+        *bits += looking::count(&acc, len);
     }
     len
 }
@@ -58,7 +56,7 @@ fn chain_bits(sh: Shape, s: &[u8], p: usize) -> u16
     requires { ⌜ (Good sh) × (length (now s) ≡ size sh) × (p < sh .n) ⌝ }
     ensures { λ r. ⌜ Chain sh (now (s .entry)) p r ⌝ }
 {
-    let wk = sh.walk(p);
+    let wk = along(sh, p);
     let mut bits = 0u16;
     let mut from = 0;
     let mut left = sh.w;

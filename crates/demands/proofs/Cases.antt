@@ -9,11 +9,11 @@ use lib.Count.{ones}
 use Rattle.xor.specs.Xor.{_⊕_, xors}
 use Rattle.xor.specs.Total.{total}
 use Rattle.xor.proofs.XorLaws.{⊕-laws}
-use Rattle.shape.specs.declared.Answer.the-variants.{Done, NoSuchStock}
+use Rattle.answer.specs.declared.Answer.the-variants.{Done, NoSuchStock}
 use Rattle.shape.specs.Good.{size, Good, shape}
 use Rattle.shape.specs.Place.{row, slot, place, byte}
 use Rattle.shape.specs.Step.{left, right}
-use Rattle.shape.specs.Answers.{number}
+use Rattle.answer.specs.Answers.{number}
 use Rattle.stock.specs.Prices.{encode-price, one-price, two-price, symbols-read}
 use Rattle.stock.specs.Stock.{stock, stock-table, zero-shape}
 use Rattle.shape.proofs.GoodLaws.{shape-2, shape-3, shape-done}

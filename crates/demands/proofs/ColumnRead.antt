@@ -6,13 +6,13 @@ use native.Mathlib.Omega.{arith}
 use lib.ListN.{length, getD, take, length-take}
 use lib.Seq.{ext-getD, getD-take}
 use Rattle.shape.specs.declared.Shape.{Shape}
-use Rattle.shape.specs.declared.Answer.the-variants.{Done}
+use Rattle.answer.specs.declared.Answer.the-variants.{Done}
 use Rattle.shape.specs.Good.{size}
 use Rattle.shape.specs.Place.{column-length, byte, column}
-use Rattle.shape.specs.Answers.{number}
+use Rattle.answer.specs.Answers.{number}
 use Rattle.shape.proofs.PlaceLaws.{height-at, offset-at, height-at-lt, offset-at-lt, place-in}
 use Rattle.shape.proofs.ColumnLaws.{length-column, getD-column}
-use Rattle.shape.proofs.AnswersLaws.{first-one}
+use Rattle.answer.proofs.AnswersLaws.{first-one}
 use Rattle.shape.proofs.GoodLaws.{good-m, good-w}
 use Rattle.rule.specs.declared.Losses.{Losses}
 use Rattle.rule.specs.Losses.{Lost}

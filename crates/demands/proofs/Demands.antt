@@ -4,8 +4,8 @@ use mathlib.Core.Logic.{inl, inr, ⊎-elim}
 use Prim.Native.Nat.{ℕ}
 use lib.ListN.{length}
 use native.Mathlib.Omega.{arith}
-use Rattle.shape.specs.declared.Answer.the-variants.{Done, Disagree}
-use Rattle.shape.proofs.AnswersLaws.{number-done}
+use Rattle.answer.specs.declared.Answer.the-variants.{Done, Disagree}
+use Rattle.answer.proofs.AnswersLaws.{number-done}
 use Rattle.shape.proofs.GoodLaws.{good-m, good-room}
 use Rattle.rule.proofs.SolvesLaws.{solves-one}
 use Rattle.locating.proofs.Explains.{explains-is-mends}

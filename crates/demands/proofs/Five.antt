@@ -1,34 +1,37 @@
 -- The cases on the stripe of (2, 5), w 1: P5 to P10, and fill, choose and column beyond them.
 use mathlib.Core.Path.{_≡_, refl, sym, ap₂, _∙_}
-use mathlib.Core.Logic.{_⊎_, inl, inr, ⊎-elim}
+use mathlib.Core.Logic.{_≢_, _⊎_, inl, inr, ⊎-elim}
 use mathlib.Core.Bool.{true, not, _||_, true≢false}
 use mathlib.Core.List.{List, [], _∷_}
-use Prim.Native.Nat.{ℕ, zero, suc, _<_}
+use Prim.Native.Nat.{ℕ, zero, suc, _*_, _≤_, _<_}
 use native.Mathlib.Omega.{arith}
-use lib.ListN.{length, getD, length-replicate, getD-replicate}
+use lib.ListN.{length, getD, replicate, length-replicate, getD-replicate}
 use lib.Dec.{eqb}
 use lib.Count.{ones}
 use borrow.Author.Tests.{eqb-true, ne-eqb, not-true}
 use Rattle.xor.specs.Xor.{_⊕_, xors}
 use Rattle.xor.specs.Total.{total}
 use Rattle.shape.specs.declared.Shape.{Shape}
+use Rattle.answer.specs.declared.Answer.the-variants.{Disagree}
 use Rattle.shape.specs.Good.{size, Good}
-use Rattle.shape.specs.Place.{height, row, slot, place, byte}
+use Rattle.shape.specs.Place.{height, row, slot, place, byte, column-length}
 use Rattle.shape.specs.Step.{left, right}
-use Rattle.shape.specs.Answers.{number}
+use Rattle.answer.specs.Answers.{number}
 use Rattle.shape.proofs.GoodLaws.{good-m, good-room, stripe-done, stripe-pass}
 use Rattle.rule.specs.declared.Losses.{Losses}
 use Rattle.rule.specs.declared.Losses.the-variants.{One, Two}
 use Rattle.rule.specs.Rule.{others, chain, differs, Obeys}
-use Rattle.rule.specs.Losses.{Beyond, Twice, Bytes, Solves}
+use Rattle.rule.specs.Losses.{Beyond, Twice, Bytes, Solves, Disagrees}
 use Rattle.rule.specs.Outer.{walk, first}
 use Rattle.locating.specs.declared.Damage.{Damage}
 use Rattle.checking.specs.Check.{some, count, breaks, broken-chains, differing-bits}
-use Rattle.locating.specs.Locate.{found}
-use Rattle.stripe.specs.Write.{write-table}
-use Rattle.stripe.specs.Store.{store-table}
+use Rattle.locating.specs.Locate.{Mends, found}
+use Rattle.writing.specs.Write.{write-table}
+use Rattle.storing.specs.Store.{store-table}
 use Rattle.locating.proofs.Explains.{explains-is-mends}
-use Rattle.rebuild.proofs.RebuildLaws.{rebuild-accepted}
+use Rattle.locating.proofs.LocateLaws.{mends-one}
+use Rattle.rebuild.specs.Rebuild.{Rebuild, Cleared}
+use Rattle.rebuild.proofs.RebuildLaws.{rebuild-accepted, late-outcome}
 use Rattle.demands.specs.Cases.{Case, Holds, woven, five, sh₅, information, parity, stripe₅, lost-0-2, lost-4-0, cleared-0, flipped-0-1}
 use Rattle.demands.proofs.Tests.{all, all-true, obeys-test, obeys-by, disobeys-by, pairs-test, away-test, explains-test, explains-by, same-test, same-by, lost-test, agrees-by, bytes-by, struck-test, struck-not}
 
@@ -66,6 +69,10 @@ pub sound₅ : Sound₅ stripe₅
 unfolding woven information parity stripe₅ size place slot row byte left right chain differs others xors _⊕_ all obeys-test
 sound₅ = record { long = refl; bytes = bytes-by stripe₅ refl; obeys = obeys-by sh₅ stripe₅ refl }
 
+-- a clear workspace
+pub clear : (room : ℕ) → Cleared room (replicate room 0)
+clear room = record { long = length-replicate room 0; zero = λ i h. getD-replicate room i 0 0 h }
+
 module _ (lost : Losses) (lent x : List ℕ) (sound : Sound₅ x) (len : length lent ≡ size sh₅) (fit : ¬ Beyond 5 lost) (apart : ¬ Twice lost)
     (test : same-test sh₅ (λ d c. lost-test lost c) x lent ≡ true) where
   pub solves₅ : Solves sh₅ lost lent x
@@ -79,7 +86,7 @@ module _ (lost : Losses) (lent x : List ℕ) (sound : Sound₅ x) (len : length 
       refused = λ ne. absurd (ne refl);
       done = λ e. solves₅;
     };
-    cleared = record { long = length-replicate room 0; zero = λ i h. getD-replicate room i 0 0 h };
+    cleared = clear room;
   }
 
 pub p6 : Holds (Case.rebuilds sh₅ (Two 0 2) lost-0-2 stripe₅)
@@ -89,6 +96,22 @@ p6 = comes-back (Two 0 2) lost-0-2 stripe₅ sound₅ refl (neither (λ h. omega
 pub p7 : Holds (Case.is-first 5 4 0 4) × Holds (Case.is-first 5 0 4 4) × Holds (Case.rebuilds sh₅ (Two 4 0) lost-4-0 stripe₅)
 unfolding woven information parity stripe₅ lost-4-0 size place slot row byte all same-test lost-test first walk
 p7 = (refl, refl, comes-back (Two 4 0) lost-4-0 stripe₅ sound₅ refl (neither (λ h. omega arith) (λ h. omega arith)) (λ z. omega arith) refl)
+
+-- ---- a lost column with which no stripe agrees
+
+-- where a change within column c makes the stripe sound, none within another column does
+pub none₅ : (lent : List ℕ) → length lent ≡ size sh₅ → ¬ Obeys sh₅ lent → (c e : ℕ) → e < 5 → c ≢ e → Mends sh₅ lent c → Disagrees sh₅ (One e) lent
+none₅ lent len bad c e he ne mends x h = ne (mends-one sh₅ lent good₅ len bad c e mends (he, x, h))
+
+-- a rebuild of it is refused, and leaves it as lent
+pub stays : (lent : List ℕ) → length lent ≡ size sh₅ → (e : ℕ) → e < 5 → Disagrees sh₅ (One e) lent
+    → (room : ℕ) → 2 * column-length sh₅ ≤ room → Rebuild sh₅ (One e) lent room Disagree lent (replicate room 0)
+unfolding number
+stays lent len e he none room enough = record {
+  outcome = late-outcome sh₅ (One e) lent room 9 lent (record { shape = good₅; stripe = len; workspace = enough; columns = λ z. omega arith; apart = λ z. z })
+      (record { answer = inl (none, refl); refused = λ ne. refl; done = λ e. absurd (omega arith) });
+  cleared = clear room;
+}
 
 -- ---- P8 to P10: one byte v put into row r of column c
 
@@ -159,13 +182,21 @@ bytes₁₀ : Bytes flipped-0-1
 unfolding woven parity flipped-0-1 all
 bytes₁₀ = bytes-by flipped-0-1 refl
 
+-- P9's stripe does not obey, and a change within column 0 makes it sound
+pub damaged₉ : (length cleared-0 ≡ size sh₅) × Bytes cleared-0 × (¬ Obeys sh₅ cleared-0) × Mends sh₅ cleared-0 0
+unfolding woven information parity stripe₅ cleared-0 size place slot row byte left right chain differs others xors _⊕_ all obeys-test same-test lost-test
+damaged₉ = (
+  refl,
+  bytes-by cleared-0 refl,
+  disobeys-by sh₅ cleared-0 refl,
+  (omega arith, stripe₅, solves₅ (One 0) cleared-0 stripe₅ sound₅ refl (λ z. omega arith) (λ z. z) refl),
+)
+
 pub find₉ : Holds (Case.finds sh₅ cleared-0 (Damage.Column 0))
-unfolding number found woven information parity stripe₅ cleared-0 size place slot row byte left right chain differs others xors _⊕_ all obeys-test same-test lost-test
-find₉ = record {
-  answer = stripe-done sh₅ cleared-0 .0 (good₅, refl);
-  refused = λ ne. absurd (ne refl);
-  done = λ e. inr (inl (refl, disobeys-by sh₅ cleared-0 refl, (omega arith, stripe₅, solves₅ (One 0) cleared-0 stripe₅ sound₅ refl (λ z. omega arith) (λ z. z) refl)));
-}
+unfolding number found
+find₉ =
+    let (long, bytes, bad, mends) = damaged₉ in
+    record { answer = stripe-done sh₅ cleared-0 .0 (good₅, long); refused = λ ne. absurd (ne refl); done = λ e. inr (inl (refl, bad, mends)) }
 
 none-explains : all 5 (λ c. not (explains-test sh₅ flipped-0-1 c)) ≡ true
 unfolding woven parity flipped-0-1 size place slot row byte left right chain differs others xors _⊕_ all pairs-test away-test explains-test

@@ -10,3 +10,5 @@ pub mod Five
 pub mod Read
 pub mod Session
 pub mod Cases
+pub mod Witnesses
+pub mod Taken

@@ -6,10 +6,11 @@ use Prim.Native.Nat.{ℕ, zero, suc, _≤_, _<_}
 use native.Mathlib.Omega.{arith}
 use lib.ListN.{length, getD}
 use Rattle.xor.specs.Xor.{_⊕_, xors}
+use Rattle.answer.specs.declared.Answer.the-variants.{BadBuffer}
 use Rattle.shape.specs.Good.{size}
 use Rattle.shape.specs.Place.{row, slot, place, byte, column}
 use Rattle.shape.specs.Step.{left, right}
-use Rattle.shape.specs.Answers.{number, First}
+use Rattle.answer.specs.Answers.{number, First}
 use Rattle.shape.proofs.GoodLaws.{stripe-pass}
 use Rattle.rule.specs.declared.Losses.{Losses}
 use Rattle.rule.specs.declared.Losses.the-variants.{None, One, Two}
@@ -17,8 +18,9 @@ use Rattle.rule.specs.Rule.{chain, others, differs}
 use Rattle.rule.specs.Losses.{Beyond, Twice}
 use Rattle.rule.specs.Outer.{Outer}
 use Rattle.rule.proofs.SolvesLaws.{solves-outer}
-use Rattle.stripe.specs.Column.{column-table}
-use Rattle.filling.specs.Fill.{fill-table, Filled}
+use Rattle.handing.specs.Column.{column-table}
+use Rattle.filling.specs.Fill.{fill-table, Filled, Fill}
+use Rattle.filling.specs.Choose.{Choose}
 use Rattle.demands.specs.Cases.{Case, Holds, woven, five, sh₅, information, parity, stripe₅, lost-0-2, flipped-0-1}
 use Rattle.demands.proofs.Tests.{all, left-test, left-by, same-test, lost-test, agrees-by}
 use Rattle.demands.proofs.Five.{good₅, neither, sound₅, solves₅}
@@ -35,7 +37,7 @@ module _ (s : List ℕ) (len : length s ≡ size sh₅) (lost : Losses) (fit : �
   unfolding fill-table
   stops h = stripe-pass sh₅ s _ 8 good₅ len (inr (neither fit (λ z. omega arith), inr (apart, inl (omega arith, refl))))
 
-fit₂ : ¬ Beyond 5 (Two 0 2)
+pub fit₂ : ¬ Beyond 5 (Two 0 2)
 fit₂ = neither (λ h. omega arith) (λ h. omega arith)
 
 -- ---- fill
@@ -82,10 +84,10 @@ fill-1 = record {
 }
 
 -- P10's stripe with column 0 solved: the chains of column 0 hold, others do not
-solved₁₀ : List ℕ
+pub solved₁₀ : List ℕ
 solved₁₀ = woven (five 0x01 0x03 0x04 0x08 0x10) (five 0x13 0x05 0x0A 0x14 0x09)
 
-outer₁₀ : Outer sh₅ (One 0) flipped-0-1 solved₁₀
+pub outer₁₀ : Outer sh₅ (One 0) flipped-0-1 solved₁₀
 unfolding woven parity flipped-0-1 solved₁₀ size place slot row byte left right chain differs others xors _⊕_ all left-test same-test lost-test
 outer₁₀ = record {
   long = refl;
@@ -102,6 +104,15 @@ fill-10 = record {
     gone = λ l. filled₅ flipped-0-1 (One 0) 0 _ _ solved₁₀ outer₁₀ refl refl refl (λ i lo hi. absurd (omega arith));
     survives = λ l. absurd (l refl);
   };
+}
+
+-- a buffer of one byte is short
+pub fill-short : Fill sh₅ lost-0-2 None 1 (0xAA ∷ []) BadBuffer (0xAA ∷ [])
+unfolding number woven lost-0-2 size
+fill-short = record {
+  answer = stops lost-0-2 refl None (λ z. z) (λ z. z) 1 (omega arith) 1 (omega arith);
+  refused = λ ne. refl;
+  done = λ e. absurd (omega arith);
 }
 
 pub fills₅ : Holds (Case.fills sh₅ lost-0-2 (Two 0 2) 0 (0xAA ∷ 0xBB ∷ 0xCC ∷ 0xDD ∷ []) (0x01 ∷ 0x12 ∷ 0xCC ∷ 0xDD ∷ []))
@@ -140,6 +151,18 @@ chooses₅ = (
       done = λ e. absurd (omega arith);
     },
   ),
+)
+
+-- column 0 of P6 is the front of the buffer
+pub choose-0 : (a b c d : ℕ) → Choose sh₅ lost-0-2 (Two 0 2) 0 (a ∷ b ∷ c ∷ d ∷ []) (a ∷ b ∷ [])
+unfolding woven lost-0-2 size
+choose-0 a b c d = (
+  0,
+  record {
+    answer = passes lost-0-2 refl (Two 0 2) fit₂ (λ z. omega arith) 0 (omega arith) 4 (omega arith);
+    refused = λ ne. absurd (ne refl);
+    done = λ e. record { survives = λ l. absurd (l (inl refl)); gone = λ l. refl };
+  },
 )
 
 pub hands-out₅ : Holds (Case.hands-out sh₅ stripe₅ 3 (0x08 ∷ 0x14 ∷ [])) × Holds (Case.hands-out sh₅ stripe₅ 5 [])

@@ -6,7 +6,7 @@ use native.Mathlib.Omega.{arith}
 use mathlib.Core.Bool.{true, false}
 use lib.ListN.{getD}
 use Rattle.shape.specs.Place.{height, row, slot, column-length, place, byte}
-use Rattle.shape.proofs.AnswersLaws.{first-lowest}
+use Rattle.answer.proofs.AnswersLaws.{first-lowest}
 use Rattle.shape.proofs.GoodLaws.{good-m, good-room, good-wide, shape-done, shape-rises, stripe-rises}
 use Rattle.stock.proofs.StockLaws
 use Rattle.rule.specs.declared.Losses.the-variants.{Two}
@@ -17,10 +17,10 @@ use Rattle.rule.proofs.Reading.{two-order}
 use Rattle.rule.proofs.OuterLaws.{outer-one, outer-some, outer-from, outer-from-one}
 use Rattle.checking.proofs.CheckLaws
 use Rattle.locating.proofs.Explains
-use Rattle.stripe.proofs.Parities
-use Rattle.stripe.proofs.WriteLaws.{write-rises}
-use Rattle.stripe.proofs.StoreLaws.{store-rises}
-use Rattle.stripe.proofs.ColumnLaws.{column-rises}
+use Rattle.writing.proofs.Parities
+use Rattle.writing.proofs.WriteLaws.{write-rises}
+use Rattle.storing.proofs.StoreLaws.{store-rises}
+use Rattle.handing.proofs.ColumnLaws.{column-rises}
 use Rattle.rebuild.proofs.RebuildLaws.{rebuild-rises}
 use Rattle.filling.proofs.FillLaws.{fill-rises, fill-either}
 use Rattle.filling.proofs.ChooseLaws

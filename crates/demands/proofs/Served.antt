@@ -6,10 +6,10 @@ use mathlib.Core.List.{List}
 use Prim.Native.Nat.{ℕ}
 use native.Mathlib.Decide.{ℕ-discrete}
 use lib.ListN.{length, drop}
-use Rattle.shape.specs.declared.Answer.{Answer}
-use Rattle.shape.specs.declared.Answer.the-variants.{Done}
-use Rattle.shape.specs.Answers.{number}
-use Rattle.shape.proofs.AnswersLaws.{number-done}
+use Rattle.answer.specs.declared.Answer.{Answer}
+use Rattle.answer.specs.declared.Answer.the-variants.{Done}
+use Rattle.answer.specs.Answers.{number}
+use Rattle.answer.proofs.AnswersLaws.{number-done}
 use Rattle.rebuild.specs.Rebuild.{Cleared, Rebuild}
 use Rattle.job.specs.declared.State.{State}
 use Rattle.job.specs.declared.Turn.{Turn}
@@ -18,9 +18,7 @@ use Rattle.job.proofs.StepLaws.{step-refused}
 use Rattle.demands.specs.OneAnswer.{One-result, One-outcome}
 use Rattle.demands.specs.Demands.{Refused-changes-nothing, Refused-step}
 use Rattle.demands.specs.Sequences
-use Rattle.demands.specs.Sequences.{Buffers, Request, Reply, Looks, Only-stripe, Writes, Only-answer, Puts, Served}
-use Rattle.demands.specs.Sequences.{encode, check, locate, small-write, raw-store, rebuild, read-column, fill, choose, prices, stock, job}
-use Rattle.demands.specs.Sequences.{answered, checked, located, handed, priced, stocked, stepped}
+use Rattle.demands.specs.Sequences.{Buffers, Request, Reply, Looks, Only-stripe, Writes, Only-answer, Puts, Served, encode, check, locate, small-write, raw-store, rebuild, read-column, fill, choose, prices, stock, job, answered, checked, located, handed, priced, stocked, stepped}
 use Rattle.demands.proofs.OneAnswer.{one-encode, one-check, one-locate, one-small-write, one-raw-store, one-rebuild, one-column, one-fill, one-choose, one-prices, one-stock, one-step}
 
 -- ---- two outcomes of one request

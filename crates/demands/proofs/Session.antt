@@ -1,42 +1,38 @@
--- The cases of the job program: document 01's session, whole, and its refusals in their order. And the lines of an input are one list.
-use mathlib.Core.Path.{_≡_, refl, sym, ap, ap₂, _∙_, subst}
+-- The cases of the job program: document 01's session, whole, and its refusals in their order.
+use mathlib.Core.Path.{_≡_, refl}
 use mathlib.Core.Logic.{inl, inr}
 use mathlib.Core.Bool.{false}
 use mathlib.Core.List.{List, [], _∷_}
 use Prim.Native.Nat.{ℕ, _+_, _*_, _≤_}
 use native.Mathlib.Omega.{arith}
-use lib.ListN.{length, drop, replicate, length-replicate, getD-replicate}
+use lib.ListN.{length, drop, replicate, getD-replicate}
 use lib.Count.{ones}
 use Rattle.xor.specs.Xor.{_⊕_, xors}
 use Rattle.xor.specs.Total.{total}
-use Rattle.shape.specs.declared.Answer.the-variants.{Done, Disagree}
+use Rattle.answer.specs.declared.Answer.the-variants.{Done, Disagree}
 use Rattle.shape.specs.Good.{size, shape}
 use Rattle.shape.specs.Place.{height, row, slot, place, byte, column-length}
 use Rattle.shape.specs.Step.{left, right}
-use Rattle.shape.specs.Answers.{number}
+use Rattle.answer.specs.Answers.{number}
 use Rattle.shape.proofs.GoodLaws.{shape-done, shape-2, stripe-done}
 use Rattle.rule.specs.declared.Losses.the-variants.{One, Two}
 use Rattle.rule.specs.Rule.{others, chain, differs}
-use Rattle.rule.specs.Losses.{named, Solves, Disagrees}
+use Rattle.rule.specs.Losses.{named, Solves}
 use Rattle.checking.specs.Check.{some, count, breaks, broken-chains, differing-bits}
 use Rattle.locating.specs.declared.Damage.the-variants.{Column}
 use Rattle.locating.specs.Locate.{found}
-use Rattle.locating.proofs.LocateLaws.{mends-one}
-use Rattle.rebuild.specs.Rebuild.{Rebuild, Cleared}
-use Rattle.rebuild.proofs.RebuildLaws.{late-outcome}
-use Rattle.job.specs.declared.Held.the-variants.{None, Some}
+use Rattle.rebuild.specs.Rebuild.{Rebuild}
+use Rattle.records.specs.Record.{two-bytes, counted, kind-of, payload, Unframed, Clients}
+use Rattle.kinds.specs.declared.Held.the-variants.{None, Some}
+use Rattle.kinds.specs.declared.Deed.{Deed}
+use Rattle.kinds.specs.Kinds.{Kind, shaping, writing, storing, checking, locating, rebuilding, kind-number, Unknown, Early, Wrong, named-shape, deed, Does, Tells-of}
+use Rattle.kinds.proofs.KindsLaws.{kind-low, job-11, job-14, job-13, job-0}
 use Rattle.job.specs.declared.State.{State}
-use Rattle.job.specs.declared.Deed.{Deed}
-use Rattle.job.specs.declared.Turn.{Turn}
-use Rattle.job.specs.Record.{two-bytes, counted, kind-of, payload, Unframed, Clients}
-use Rattle.job.specs.Kinds.{Kind, shaping, writing, storing, checking, locating, rebuilding, kind-number, Unknown, Early, Wrong, named-shape, deed, Does, Tells-of}
 use Rattle.job.specs.Step.{next, step-of, stopped}
-use Rattle.job.proofs.KindsLaws.{kind-low, job-11, job-14, job-13, job-0}
 use Rattle.job.proofs.StepLaws.{stepped-broken, stepped-client, stepped-known}
-use Rattle.demands.specs.Cases.{Case, Holds, woven, five, sh₅, information, parity, stripe₅, printed, Prints, start, after, session, session-lines, One-printout}
-use Rattle.demands.proofs.OneAnswer.{one-step}
+use Rattle.demands.specs.Cases.{Case, Holds, woven, five, sh₅, information, parity, stripe₅, printed, Prints, start, after, session, session-lines}
 use Rattle.demands.proofs.Tests.{all, obeys-test, obeys-by, disobeys-by, same-test, lost-test, bytes-by, struck-test}
-use Rattle.demands.proofs.Five.{good₅, neither, Sound₅, solves₅, comes-back, stores, writes, counted as counts-by}
+use Rattle.demands.proofs.Five.{good₅, neither, Sound₅, solves₅, clear, comes-back, none₅, stays, stores, writes, counted as counts-by}
 
 -- ---- the stripe after the second record, and after the fourth
 
@@ -79,38 +75,41 @@ back₈ : Holds (Case.rebuilds sh₅ (Two 1 0) damaged written)
 unfolding written damaged woven size place slot row byte all same-test lost-test
 back₈ = comes-back (Two 1 0) damaged written sound refl (neither (λ h. omega arith) (λ h. omega arith)) (λ z. omega arith) refl
 
-module _ (room : ℕ) (enough : 2 * column-length sh₅ ≤ room) where
-  clear : Cleared room (replicate room 0)
-  clear = record { long = length-replicate room 0; zero = λ i h. getD-replicate room i 0 0 h }
+-- ---- records
 
+-- one that lies whole at the front of the input
+abbrev pub Whole : List ℕ → Type 0
+Whole input = (2 ≤ counted input) × (counted input ≤ 4100) × (2 + counted input ≤ length input)
+
+pub framed : (input : List ℕ) → Whole input → ¬ Unframed input
+framed input (lo, hi, fits) = neither (λ z. omega arith) (neither (λ z. omega arith) (neither (λ z. omega arith) (λ z. omega arith)))
+
+pub seven : Unknown 7
+unfolding kind-number
+seven shaping e = omega arith
+seven writing e = omega arith
+seven storing e = omega arith
+seven checking e = omega arith
+seven locating e = omega arith
+seven rebuilding e = omega arith
+
+module _ (room : ℕ) (enough : 2 * column-length sh₅ ≤ room) where
   -- column 1 mends the stripe, so column 3 does not
   disagree₇ : Rebuild sh₅ (One 3) damaged room Disagree damaged (replicate room 0)
-  unfolding number
   disagree₇ =
-      let (long, bad, sol) = mends₁ in record {
-        outcome = late-outcome sh₅ (One 3) damaged room 9 damaged
-            (record { shape = good₅; stripe = long; workspace = enough; columns = λ z. omega arith; apart = λ z. z })
-            (record { answer = inl (none long bad sol, refl); refused = λ ne. refl; done = λ e. absurd (omega arith) });
-        cleared = clear;
-      }
-    where
-      none : length damaged ≡ size sh₅ → obeys-test sh₅ damaged ≡ false → Solves sh₅ (One 1) damaged written → Disagrees sh₅ (One 3) damaged
-      none long bad sol x h =
-          let e = mends-one sh₅ damaged good₅ long (disobeys-by sh₅ damaged bad) 1 3 (omega arith, written, sol) (omega arith, x, h) in omega arith
+      let (long, bad, sol) = mends₁ in
+      stays damaged long 3 (omega arith) (none₅ damaged long (disobeys-by sh₅ damaged bad) 1 3 (omega arith) (λ e. omega arith) (omega arith, written, sol)) room enough
 
   -- ---- a record that the program does not refuse: what its kind does, then the rest
 
-  module _ (st : State) (input s : List ℕ) (whole : (2 ≤ counted input) × (counted input ≤ 4100) × (2 + counted input ≤ length input)) where
-    framed : ¬ Unframed input
-    framed = neither (λ z. omega (arith, whole .0, whole .2)) (neither (λ z. omega (arith, whole .0)) (neither (λ z. omega (arith, whole .1)) (λ z. omega (arith, whole .2))))
-
+  module _ (st : State) (input s : List ℕ) (whole : Whole input) where
     tells : ¬ Clients (kind-of input) → (d : Deed) (s′ : List ℕ) → Tells-of (kind-of input) (st .held) (payload input) s room d s′ (replicate room 0)
         → (line : List ℕ) (rest : List (List ℕ)) → printed (step-of st (kind-of input) d (2 + counted input)) ≡ line
         → Prints (record { held = d .held; records = next (st .records) }) (drop (2 + counted input) input) s′ room rest
         → Prints st input s room (line ∷ rest)
     unfolding step-of
     tells ours d s′ t line rest e more =
-        (omega (arith, whole .0, whole .2), _, s′, replicate room 0, stepped-known st input s room (replicate room 0) clear framed ours d s′ t, e, more)
+        (omega (arith, whole .0, whole .2), _, s′, replicate room 0, stepped-known st input s room (replicate room 0) (clear room) (framed input whole) ours d s′ t, e, more)
 
     goes : (k : Kind) → kind-of input ≡ kind-number k → ¬ Early k (st .held) → ¬ Wrong k (payload input)
         → (d : Deed) (s′ : List ℕ) → Does k (st .held) (payload input) s room d s′ (replicate room 0)
@@ -179,15 +178,6 @@ module _ (room : ℕ) (enough : 2 * column-length sh₅ ≤ room) where
 
   -- ---- the refusals
 
-  seven : Unknown 7
-  unfolding kind-number
-  seven shaping e = omega arith
-  seven writing e = omega arith
-  seven storing e = omega arith
-  seven checking e = omega arith
-  seven locating e = omega arith
-  seven rebuilding e = omega arith
-
   early : Prints start (0x03 ∷ 0x00 ∷ 0x06 ∷ 0x00 ∷ 0x03 ∷ []) stripe₅ room (five 1 6 14 0 0 ∷ [])
   unfolding two-bytes counted kind-of payload kind-number step-of next printed
   early =
@@ -213,15 +203,15 @@ module _ (room : ℕ) (enough : 2 * column-length sh₅ ≤ room) where
     _,
     stripe₅,
     replicate room 0,
-    stepped-client start (0x02 ∷ 0x00 ∷ 0x00 ∷ 0x80 ∷ 0x02 ∷ []) stripe₅ room (replicate room 0) clear
-        (framed start (0x02 ∷ 0x00 ∷ 0x00 ∷ 0x80 ∷ 0x02 ∷ []) stripe₅ (omega arith)) (omega arith),
+    stepped-client start (0x02 ∷ 0x00 ∷ 0x00 ∷ 0x80 ∷ 0x02 ∷ []) stripe₅ room (replicate room 0) (clear room)
+        (framed (0x02 ∷ 0x00 ∷ 0x00 ∷ 0x80 ∷ 0x02 ∷ []) (omega arith)) (omega arith),
     refl,
     (
       omega arith,
       _,
       stripe₅,
       replicate room 0,
-      stepped-broken (record { held = None; records = 1 }) (0x02 ∷ []) stripe₅ room (replicate room 0) clear (omega arith) (inl (omega arith)),
+      stepped-broken (record { held = None; records = 1 }) (0x02 ∷ []) stripe₅ room (replicate room 0) (clear room) (omega arith) (inl (omega arith)),
       refl,
       refl,
     ),
@@ -246,16 +236,3 @@ pub refusals-print : Holds (Case.prints start (0x03 ∷ 0x00 ∷ 0x06 ∷ 0x00 �
     × Holds (Case.prints start (0x02 ∷ 0x00 ∷ 0x00 ∷ 0x80 ∷ 0x02 ∷ []) stripe₅ ([] ∷ five 2 0 12 0 0 ∷ []))
     × Holds (Case.prints (after 1) (0x06 ∷ 0x00 ∷ 0x01 ∷ 0x00 ∷ 0x02 ∷ 0x04 ∷ 0x01 ∷ 0x00 ∷ 0x02 ∷ 0x00 ∷ 0x04 ∷ 0x00 ∷ []) stripe₅ (five 2 1 2 0 0 ∷ five 3 4 0 0 0 ∷ []))
 refusals-print = (early, unknown, short, stray, old)
-
--- ---- the lines of an input are one list
-
-pub one-printout : One-printout
-one-printout st input s room [] [] p q = refl
-one-printout st input s room [] (m ∷ ms) p q = absurd (omega (arith, q .0))
-one-printout st input s room (l ∷ ls) [] p q = absurd (omega (arith, p .0))
-one-printout st input s room (l ∷ ls) (m ∷ ms) (a, r, x, u, h, e, more) (b, r₂, y, v, g, f, more₂) =
-    let (same, kept, clear) = one-step st input s room r r₂ x y u v h g in
-    let more′ : Prints (r .state) (drop (r .taken) input) x room ms =
-    subst (λ (k : Turn). Prints (k .state) (drop (k .taken) input) x room ms) (sym same)
-    (subst (λ (z : List ℕ). Prints (r₂ .state) (drop (r₂ .taken) input) z room ms) (sym kept) more₂) in
-    ap₂ _∷_ (sym e ∙ ap printed same ∙ f) (one-printout (r .state) (drop (r .taken) input) x room ls ms more more′)

@@ -7,24 +7,22 @@ use Prim.Native.Nat.{ℕ}
 use lib.ListN.{length, drop}
 use lib.Dec.{eqb}
 use borrow.Author.Tests.{eq-eqb, ne-eqb}
-use Rattle.shape.specs.declared.Answer.{Answer}
+use Rattle.answer.specs.declared.Answer.{Answer}
 use Rattle.stock.proofs.PricesLaws.{prices-some}
 use Rattle.stock.proofs.StockLaws.{stock-some}
 use Rattle.encoding.proofs.EncodeLaws.{encode-some}
 use Rattle.checking.proofs.CheckLaws.{check-some}
 use Rattle.locating.proofs.LocateLaws.{locate-some}
-use Rattle.stripe.proofs.WriteLaws.{write-some}
-use Rattle.stripe.proofs.StoreLaws.{store-some}
-use Rattle.stripe.proofs.ColumnLaws.{column-some}
+use Rattle.writing.proofs.WriteLaws.{write-some}
+use Rattle.storing.proofs.StoreLaws.{store-some}
+use Rattle.handing.proofs.ColumnLaws.{column-some}
 use Rattle.rebuild.proofs.RebuildLaws.{rebuild-some}
 use Rattle.filling.proofs.FillLaws.{fill-some}
 use Rattle.filling.proofs.ChooseLaws.{choose-some}
 use Rattle.job.specs.declared.State.{State}
 use Rattle.job.proofs.StepLaws.{step-some}
 use Rattle.demands.specs.OneAnswer.{Some-answer}
-use Rattle.demands.specs.Sequences.{Buffers, Request, Reply, Looks, Only-stripe, Writes, Puts, Served}
-use Rattle.demands.specs.Sequences.{encode, check, locate, small-write, raw-store, rebuild, read-column, fill, choose, prices, stock, job}
-use Rattle.demands.specs.Sequences.{answered, checked, located, handed, priced, stocked, stepped}
+use Rattle.demands.specs.Sequences.{Buffers, Request, Reply, Looks, Only-stripe, Writes, Puts, Served, encode, check, locate, small-write, raw-store, rebuild, read-column, fill, choose, prices, stock, job, answered, checked, located, handed, priced, stocked, stepped}
 
 -- f with x at k
 put : {A : Type 0} → ℕ → A → (ℕ → A) → ℕ → A

@@ -8,11 +8,12 @@ use lib.ListN.{length, drop, replicate}
 use lib.Dec.{eqb}
 use Rattle.xor.specs.Xor.{_⊕_}
 use Rattle.shape.specs.declared.Shape.{Shape}
-use Rattle.shape.specs.declared.Answer.{Answer}
-use Rattle.shape.specs.declared.Answer.the-variants.{Done, NoSuchStock}
+use Rattle.answer.specs.declared.Answer.{Answer}
+use Rattle.answer.specs.declared.Answer.the-variants.{Done, NoSuchStock}
 use Rattle.shape.specs.Good.{Within, symbol, Good, shape}
 use Rattle.shape.specs.Place.{column-length}
-use Rattle.shape.specs.Answers.{First, shape-table}
+use Rattle.answer.specs.Answers.{First}
+use Rattle.shape.specs.Refusals.{shape-table}
 use Rattle.stock.specs.Prices.{Prices}
 use Rattle.stock.specs.Stock.{Stock, zero-shape}
 use Rattle.rule.specs.declared.Losses.{Losses}
@@ -24,13 +25,13 @@ use Rattle.locating.specs.declared.Damage.the-variants.{Column, Several}
 use Rattle.encoding.specs.Encode.{Encode}
 use Rattle.checking.specs.Check.{Check}
 use Rattle.locating.specs.Locate.{Locate}
-use Rattle.stripe.specs.Write.{SmallWrite}
-use Rattle.stripe.specs.Store.{RawStore}
-use Rattle.stripe.specs.Column.{ColumnRead}
+use Rattle.writing.specs.Write.{SmallWrite}
+use Rattle.storing.specs.Store.{RawStore}
+use Rattle.handing.specs.Column.{ColumnRead}
 use Rattle.rebuild.specs.Rebuild.{Rebuild}
 use Rattle.filling.specs.Fill.{Fill}
 use Rattle.filling.specs.Choose.{Choose}
-use Rattle.job.specs.declared.Held.{Held}
+use Rattle.kinds.specs.declared.Held.{Held}
 use Rattle.job.specs.declared.State.{State}
 use Rattle.job.specs.declared.Turn.{Turn}
 use Rattle.job.specs.Step.{Stepped}

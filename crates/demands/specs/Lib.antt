@@ -3,3 +3,4 @@ pub mod OneAnswer
 pub mod Sequences
 pub mod Reading
 pub mod Cases
+pub mod Witnesses

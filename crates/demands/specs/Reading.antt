@@ -8,12 +8,13 @@ use lib.ListN.{length, getD}
 use lib.Dec.{ltb}
 use Rattle.xor.specs.Xor.{_⊕_}
 use Rattle.shape.specs.declared.Shape.{Shape}
-use Rattle.shape.specs.declared.Answer.{Answer}
-use Rattle.shape.specs.declared.Answer.the-variants.{Done}
+use Rattle.answer.specs.declared.Answer.{Answer}
+use Rattle.answer.specs.declared.Answer.the-variants.{Done}
 use Rattle.shape.specs.Good.{Good, size}
 use Rattle.shape.specs.Place.{height, column-length, byte, column}
 use Rattle.shape.specs.Step.{left, right}
-use Rattle.shape.specs.Answers.{Table, First, Applies, Rises, shape-table, stripe-table}
+use Rattle.answer.specs.Answers.{Table, First, Applies, Rises}
+use Rattle.shape.specs.Refusals.{shape-table, stripe-table}
 use Rattle.stock.specs.Stock.{stock, zero-shape, stock-table}
 use Rattle.rule.specs.declared.Losses.{Losses}
 use Rattle.rule.specs.declared.Losses.the-variants.{One, Two}
@@ -22,16 +23,16 @@ use Rattle.rule.specs.Losses.{Beyond, Twice, Bytes}
 use Rattle.rule.specs.Outer.{walk, first, second, without, Outer}
 use Rattle.checking.specs.Check.{broken-chains}
 use Rattle.locating.specs.Locate.{Mends, Explains}
-use Rattle.stripe.specs.Write.{SmallWrite, write-table}
-use Rattle.stripe.specs.Store.{store-table}
-use Rattle.stripe.specs.Column.{column-table}
+use Rattle.writing.specs.Write.{SmallWrite, write-table}
+use Rattle.storing.specs.Store.{store-table}
+use Rattle.handing.specs.Column.{column-table}
 use Rattle.rebuild.specs.Rebuild.{Rebuild, rebuild-table}
 use Rattle.filling.specs.Fill.{Fill, fill-table}
 use Rattle.filling.specs.Choose.{Choose}
+use Rattle.records.specs.Record.{kind-of, payload, Unframed, Clients}
+use Rattle.kinds.specs.Kinds.{Kind, kind-number, Unknown, Early, Wrong}
 use Rattle.job.specs.declared.State.{State}
 use Rattle.job.specs.declared.Turn.{Turn}
-use Rattle.job.specs.Record.{kind-of, payload, Unframed, Clients}
-use Rattle.job.specs.Kinds.{Kind, kind-number, Unknown, Early, Wrong}
 use Rattle.job.specs.Step.{Stepped}
 
 -- ---- layout and chains

@@ -10,7 +10,7 @@ use Prim.Native.Nat.{ℕ}
 use lib.ListN.{length, drop}
 use lib.Dec.{eqb}
 use Rattle.shape.specs.declared.Shape.{Shape}
-use Rattle.shape.specs.declared.Answer.{Answer}
+use Rattle.answer.specs.declared.Answer.{Answer}
 use Rattle.stock.specs.declared.Priced.{Priced}
 use Rattle.stock.specs.declared.Stocked.{Stocked}
 use Rattle.stock.specs.Prices.{Prices}
@@ -21,9 +21,9 @@ use Rattle.locating.specs.declared.Located.{Located}
 use Rattle.encoding.specs.Encode.{Encode}
 use Rattle.checking.specs.Check.{Check}
 use Rattle.locating.specs.Locate.{Locate}
-use Rattle.stripe.specs.Write.{SmallWrite}
-use Rattle.stripe.specs.Store.{RawStore}
-use Rattle.stripe.specs.Column.{ColumnRead}
+use Rattle.writing.specs.Write.{SmallWrite}
+use Rattle.storing.specs.Store.{RawStore}
+use Rattle.handing.specs.Column.{ColumnRead}
 use Rattle.rebuild.specs.Rebuild.{Rebuild}
 use Rattle.filling.specs.Fill.{Fill}
 use Rattle.filling.specs.Choose.{Choose}

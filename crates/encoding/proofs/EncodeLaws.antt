@@ -5,12 +5,13 @@ use Prim.Native.Nat.{ℕ, zero, suc, _≤_}
 use native.Mathlib.Omega.{arith}
 use lib.ListN.{length}
 use Rattle.shape.specs.declared.Shape.{Shape}
-use Rattle.shape.specs.declared.Answer.{Answer}
+use Rattle.answer.specs.declared.Answer.{Answer}
 use Rattle.shape.specs.Good.{Good, size}
 use Rattle.shape.specs.Place.{byte}
 use Rattle.shape.proofs.Made.{made, length-made, byte-made}
 use Rattle.shape.proofs.GoodLaws.{good-m, good-room, stripe-done}
-use Rattle.shape.proofs.OutcomeLaws.{call-one, call-some, stripe-ready}
+use Rattle.answer.proofs.OutcomeLaws.{call-one, call-some}
+use Rattle.shape.proofs.Ready.{stripe-ready}
 use Rattle.rule.specs.Rule.{Grid, others}
 use Rattle.rule.proofs.ChainLaws.{others-cong}
 use Rattle.encoding.specs.Encode.{Encoded, Encode}

@@ -6,7 +6,7 @@ use mathlib.Core.List.{List}
 use Prim.Native.Nat.{ℕ, zero, _+_, _-_, _≤_, _<_}
 use native.Mathlib.Omega.{arith}
 use native.Mathlib.Decide.{decLt, ℕ-discrete}
-use Rattle.xor.specs.Block.{Spanned}
+use Rattle.xor.specs.Spanned.{Spanned}
 use Rattle.shape.specs.declared.Shape.{Shape}
 use Rattle.shape.specs.Good.{Good}
 use Rattle.shape.specs.Place.{byte, place}

@@ -4,10 +4,11 @@ use mathlib.Core.List.{List}
 use Prim.Native.Nat.{ℕ, _≤_, _<_}
 use lib.ListN.{length}
 use Rattle.shape.specs.declared.Shape.{Shape}
-use Rattle.shape.specs.declared.Answer.{Answer}
+use Rattle.answer.specs.declared.Answer.{Answer}
 use Rattle.shape.specs.Place.{byte}
-use Rattle.shape.specs.Answers.{number, stripe-table}
-use Rattle.shape.specs.Outcome.{Outcome}
+use Rattle.answer.specs.Answers.{number}
+use Rattle.shape.specs.Refusals.{stripe-table}
+use Rattle.answer.specs.Outcome.{Outcome}
 use Rattle.rule.specs.Rule.{Obeys}
 
 -- "Encode sets every parity symbol by the rule; information is untouched."

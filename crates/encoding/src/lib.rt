@@ -4,14 +4,15 @@ ghost use mathlib.Core.Path.{_≡_};
 ghost use Prim.Native.Nat.{_+_, _%_, _≤_, _<_};
 ghost use lib.ListN.{length};
 ghost use Rattle.shape.specs.Good.{Good, size};
-ghost use Rattle.shape.specs.Walk.{Walks};
+ghost use Rattle.walking.specs.Walk.{Walks};
 ghost use Rattle.chain.specs.Chain.{Part};
-ghost use Rattle.encoding.specs.Settled.{Settled, Stretch, Below};
+ghost use Rattle.encoding.specs.Settled.{Settled, Stretch};
 ghost use Rattle.encoding.specs.Encode.{Encoded, Encode};
+use answer::Answer;
 use chain::others;
-use shape::Answer;
 use shape::Shape;
-use shape::Walk;
+use walking::Walk;
+use walking::along;
 
 // Sets len bytes of the parity symbol of the chain that wk walks, and gives len.
 fn encode_part(sh: Shape, stripe: &mut [u8], wk: Walk, from: usize, len: usize) -> usize
@@ -19,7 +20,7 @@ fn encode_part(sh: Shape, stripe: &mut [u8], wk: Walk, from: usize, len: usize) 
     ensures { λ r. ⌜ (r ≡ len) × (Settled sh (Stretch (wk .p) from (from + r)) (now (stripe .entry)) (now (stripe .exit))) ⌝ }
 {
     let acc = others(sh, stripe, wk, from, len);
-    xor::put(&acc, stripe, wk.at + from, len);
+    block::put(&acc, stripe, wk.at + from, len);
     len
 }
 
@@ -67,7 +68,7 @@ fn encode_chain(sh: Shape, stripe: &mut [u8], p: usize)
     ensures { λ _. ⌜ Settled sh (Stretch p 0 (sh .w)) (now (stripe .entry)) (now (stripe .exit)) ⌝ }
 {
     let whole = sh.w - sh.w % 128;
-    let wk = sh.walk(p);
+    let wk = along(sh, p);
     encode_blocks(sh, stripe, wk, whole);
     encode_tail(sh, stripe, wk, whole);
 }

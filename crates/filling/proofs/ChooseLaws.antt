@@ -8,14 +8,14 @@ use native.Mathlib.Omega.{arith}
 use native.Mathlib.Decide.{ℕ-discrete}
 use lib.ListN.{length, take, length-take}
 use Rattle.shape.specs.declared.Shape.{Shape}
-use Rattle.shape.specs.declared.Answer.{Answer}
-use Rattle.shape.specs.declared.Answer.the-variants.{Done}
+use Rattle.answer.specs.declared.Answer.{Answer}
+use Rattle.answer.specs.declared.Answer.the-variants.{Done}
 use Rattle.shape.specs.Place.{column-length, column}
-use Rattle.shape.specs.Answers.{number}
+use Rattle.answer.specs.Answers.{number}
 use Rattle.shape.proofs.ColumnLaws.{length-column}
-use Rattle.shape.proofs.AnswersLaws.{number-done, first-one}
+use Rattle.answer.proofs.AnswersLaws.{number-done, first-one}
 use Rattle.shape.proofs.GoodLaws.{good-m, good-w}
-use Rattle.shape.proofs.OutcomeLaws.{part-one, part-some}
+use Rattle.answer.proofs.OutcomeLaws.{part-one, part-some}
 use Rattle.rule.specs.declared.Losses.{Losses}
 use Rattle.rule.specs.Losses.{Lost}
 use Rattle.rule.proofs.Reading.{lost?}

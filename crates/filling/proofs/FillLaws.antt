@@ -11,16 +11,18 @@ use lib.Seq.{ext-getD}
 use lib.Dec.{ltb}
 use borrow.Author.Tests.{lt-ltb, le-ltb}
 use Rattle.shape.specs.declared.Shape.{Shape}
-use Rattle.shape.specs.declared.Answer.{Answer}
-use Rattle.shape.specs.declared.Answer.the-variants.{Done, NoSuchPlace, SameColumn, BadBuffer}
+use Rattle.answer.specs.declared.Answer.{Answer}
+use Rattle.answer.specs.declared.Answer.the-variants.{Done, NoSuchPlace, SameColumn, BadBuffer}
 use Rattle.shape.specs.Good.{Good, size}
 use Rattle.shape.specs.Place.{column-length, place, byte}
-use Rattle.shape.specs.Answers.{number, First, Rises, shape-table, stripe-table}
+use Rattle.answer.specs.Answers.{number, First, Rises}
+use Rattle.shape.specs.Refusals.{shape-table, stripe-table}
 use Rattle.shape.proofs.PlaceLaws.{height-at, offset-at, height-at-lt, offset-at-lt, height-at-place, offset-at-place, place-in, front-lt}
 use Rattle.shape.proofs.Made.{listed, length-listed, getD-listed}
-use Rattle.shape.proofs.AnswersLaws.{first-clear, Like, like-append, like-first}
+use Rattle.answer.proofs.AnswersLaws.{first-clear, Like, like-append, like-first}
 use Rattle.shape.proofs.GoodLaws.{good-m, good-w, stripe-clear, stripe-like}
-use Rattle.shape.proofs.OutcomeLaws.{Ready, either?, call-one, call-some, stripe-ready-rest}
+use Rattle.answer.proofs.OutcomeLaws.{Ready, either?, call-one, call-some}
+use Rattle.shape.proofs.Ready.{stripe-ready-rest}
 use Rattle.rule.specs.declared.Losses.{Losses}
 use Rattle.rule.specs.declared.Losses.the-variants.{Two}
 use Rattle.rule.specs.Losses.{Lost, Beyond, Twice}

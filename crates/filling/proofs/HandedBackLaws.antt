@@ -8,14 +8,14 @@ use denote.Ref.{RefT}
 use lib.ListN.{length, take, drop}
 use Rattle.shape.specs.declared.Shape.{Shape}
 use Rattle.shape.specs.Place.{column-length}
-use Rattle.shape.specs.Answers.{First}
+use Rattle.answer.specs.Answers.{First}
 use Rattle.shape.specs.Own.{PartOf}
-use Rattle.shape.proofs.AnswersLaws.{first-one}
+use Rattle.answer.proofs.AnswersLaws.{first-one}
 use Rattle.shape.proofs.GoodLaws.{stripe-pass}
 use Rattle.rule.specs.declared.Losses.{Losses}
 use Rattle.rule.specs.Losses.{Lost}
-use Rattle.stripe.specs.Column.{column-table}
-use Rattle.stripe.specs.Handed.{Handed}
+use Rattle.handing.specs.Column.{column-table}
+use Rattle.handing.specs.Handed.{Handed}
 use Rattle.filling.specs.Fill.{fill-table}
 use Rattle.filling.specs.HandedBack.{HandedBack}
 use Rattle.filling.proofs.FillLaws.{fill-done}

@@ -1,4 +1,5 @@
 pub mod FillLaws
 pub mod ChooseLaws
 pub mod FillingLaws
+pub mod ReadFilled
 pub mod HandedBackLaws

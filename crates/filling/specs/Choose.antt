@@ -5,7 +5,7 @@ use Prim.Native.Nat.{ℕ}
 use lib.ListN.{length, take}
 use Rattle.shape.specs.declared.Shape.{Shape}
 use Rattle.shape.specs.Place.{column-length, column}
-use Rattle.shape.specs.Outcome.{Unnumbered}
+use Rattle.answer.specs.Outcome.{Unnumbered}
 use Rattle.rule.specs.declared.Losses.{Losses}
 use Rattle.rule.specs.Losses.{Lost}
 use Rattle.filling.specs.Fill.{fill-table}

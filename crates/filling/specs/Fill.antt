@@ -5,10 +5,11 @@ use mathlib.Core.List.{List, [], _∷_, _++_}
 use Prim.Native.Nat.{ℕ, _≤_, _<_}
 use lib.ListN.{length, getD}
 use Rattle.shape.specs.declared.Shape.{Shape}
-use Rattle.shape.specs.declared.Answer.{Answer}
+use Rattle.answer.specs.declared.Answer.{Answer}
 use Rattle.shape.specs.Place.{column-length, place, byte}
-use Rattle.shape.specs.Answers.{number, Table, stripe-table}
-use Rattle.shape.specs.Outcome.{Outcome}
+use Rattle.answer.specs.Answers.{number, Table}
+use Rattle.shape.specs.Refusals.{stripe-table}
+use Rattle.answer.specs.Outcome.{Outcome}
 use Rattle.rule.specs.declared.Losses.{Losses}
 use Rattle.rule.specs.Losses.{Lost, Beyond, Twice}
 use Rattle.rule.specs.Outer.{Outer}

@@ -1,11 +1,11 @@
 // Choose: the wanted column from the stripe or from the answer buffer, as the caller's own bytes.
 ghost use Rattle.filling.specs.HandedBack.{HandedBack};
 use crate::filling::fill_refusal;
+use answer::Answer;
+use handing::column;
 use rule::Losses;
 use rule::is_lost;
-use shape::Answer;
 use shape::Shape;
-use stripe::column;
 
 // The wanted column in the stripe if it survives, or else the first m·w bytes of the answer buffer; a part of length 0 where fill is refused.
 pub fn choose<'a>(

@@ -2,15 +2,15 @@
 ghost use mathlib.Core.Path.{_≡_};
 ghost use Prim.Native.Nat.{ℕ, _≤_};
 ghost use lib.ListN.{length};
-ghost use Rattle.shape.specs.Answers.{number, First};
-ghost use Rattle.chain.specs.Places.{Table};
+ghost use Rattle.answer.specs.Answers.{number, First};
+ghost use Rattle.listing.specs.Places.{Table};
 ghost use Rattle.solving.specs.Outer.{Solved, Stores, Ready};
 ghost use Rattle.filling.specs.Fill.{fill-table, Fill};
 ghost use Rattle.filling.specs.Filling.{SideOf, narrowed, Fillable, ColumnIn};
+use answer::Answer;
 use rule::Losses;
 use rule::beyond;
 use rule::twice;
-use shape::Answer;
 use shape::Shape;
 use solving::Gone;
 use solving::solve_first;
@@ -94,7 +94,7 @@ fn fill_column(s: &[u8], out: &mut [u8], x: Gone, side: usize)
     requires { ⌜ Fillable x side (now s) (now out) ⌝ }
     ensures { λ _. ⌜ (length (now (out .exit)) ≡ length (now (out .entry))) × ((v : ℕ → ℕ → ℕ → ℕ) → Solved x (now (s .entry)) v → ColumnIn x v side (now (out .entry)) (now (out .exit))) ⌝ }
 {
-    let table = chain::table(x.shape);
+    let table = listing::table(x.shape);
     let mut left = lesser(2 * x.walk, x.shape.m);
     while 0 < left {
         left -= 1;

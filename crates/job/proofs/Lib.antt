@@ -1,13 +1,4 @@
-pub mod BufferLaws
-pub mod KindsLaws
 pub mod StepLaws
-pub mod ToldLaws
-pub mod FrontLaws
-pub mod HoldingLaws
-pub mod WritingLaws
-pub mod AskingLaws
-pub mod ShapingLaws
-pub mod MendingLaws
 pub mod DecidingLaws
 pub mod SteppingLaws
 pub mod TakenLaws

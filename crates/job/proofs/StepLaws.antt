@@ -10,18 +10,19 @@ use Prim.Native.Nat.{ℕ, _+_, _<_}
 use native.Mathlib.Omega.{arith}
 use native.Mathlib.Decide.{decLe, decLt, ℕ-discrete}
 use lib.ListN.{length}
-use Rattle.shape.specs.Answers.{First}
-use Rattle.shape.proofs.AnswersLaws.{first-one}
-use Rattle.shape.proofs.OutcomeLaws.{either?}
+use Rattle.answer.specs.Answers.{First}
+use Rattle.answer.proofs.AnswersLaws.{first-one}
+use Rattle.answer.proofs.OutcomeLaws.{either?}
 use Rattle.rebuild.specs.Rebuild.{Cleared}
-use Rattle.job.specs.declared.Deed.{Deed}
+use Rattle.records.specs.Record.{counted, kind-of, payload, Unframed, Clients}
+use Rattle.kinds.specs.declared.Deed.{Deed}
+use Rattle.kinds.specs.Kinds.{Kind, kind-number, Unknown, Early, Wrong, Of, job-table, deed, skipped, Does, Tells-of}
+use Rattle.kinds.proofs.BufferLaws.{cleared-one, cleared-some}
+use Rattle.kinds.proofs.KindsLaws.{kind-low, job-11, job-14, job-13}
+use Rattle.kinds.proofs.DoesLaws.{tells-one, tells-some, tells-refused, tells-shown}
 use Rattle.job.specs.declared.State.{State}
 use Rattle.job.specs.declared.Turn.{Turn}
-use Rattle.job.specs.Record.{counted, kind-of, payload, Unframed, Clients}
-use Rattle.job.specs.Kinds.{Kind, kind-number, Unknown, Early, Wrong, Of, job-table, deed, skipped, Does, Tells-of}
 use Rattle.job.specs.Step.{step-of, stopped, ended, Stepped}
-use Rattle.job.proofs.BufferLaws.{cleared-one, cleared-some}
-use Rattle.job.proofs.KindsLaws.{kind-low, job-11, job-14, job-13, tells-one, tells-some, tells-refused, tells-shown}
 
 unframed? : (input : List ℕ) → Dec (Unframed input)
 unframed? input = either? (decLt (length input) 2) (either? (decLt (counted input) 2) (either? (decLt 4100 (counted input)) (decLt (length input) (2 + counted input))))

@@ -7,10 +7,10 @@ use Prim.Native.Nat.{ℕ, _+_, _-_, _≤_, _<_}
 use native.Mathlib.Omega.{arith}
 use lib.ListN.{length, take, drop}
 use Rattle.rebuild.specs.Rebuild.{Cleared}
+use Rattle.records.specs.Record.{counted, kind-of, payload, Unframed}
+use Rattle.kinds.specs.declared.Deed.{Deed}
 use Rattle.job.specs.declared.State.{State}
-use Rattle.job.specs.declared.Deed.{Deed}
 use Rattle.job.specs.declared.Turn.{Turn}
-use Rattle.job.specs.Record.{counted, kind-of, payload, Unframed}
 use Rattle.job.specs.Step.{step-of, stopped, ended, Stepped}
 use Rattle.job.specs.Deciding.{Decides}
 use Rattle.job.proofs.StepLaws.{stepped-end, stepped-broken}

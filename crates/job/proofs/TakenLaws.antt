@@ -6,10 +6,9 @@ use Prim.Native.Nat.{ℕ, _+_, _≤_, _<_}
 use native.Mathlib.Decide.{decLe}
 use native.Mathlib.Omega.{arith}
 use lib.ListN.{length}
+use Rattle.records.specs.Record.{counted, kind-of, Unframed, Clients}
 use Rattle.job.specs.declared.State.{State}
-use Rattle.job.specs.declared.Deed.{Deed}
 use Rattle.job.specs.declared.Turn.{Turn}
-use Rattle.job.specs.Record.{counted, kind-of, Unframed, Clients}
 use Rattle.job.specs.Step.{step-of, stopped, ended, Stepped}
 
 -- no more than there is

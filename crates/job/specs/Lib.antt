@@ -1,4 +1,2 @@
-pub mod Record
-pub mod Kinds
 pub mod Step
 pub mod Deciding

@@ -6,11 +6,11 @@ use mathlib.Core.List.{List}
 use Prim.Native.Nat.{ℕ, _+_, _%_, _<_}
 use lib.ListN.{length}
 use Rattle.rebuild.specs.Rebuild.{Cleared}
+use Rattle.records.specs.Record.{counted, kind-of, payload, Unframed, Clients}
+use Rattle.kinds.specs.declared.Deed.{Deed}
+use Rattle.kinds.specs.Kinds.{skipped, Tells-of}
 use Rattle.job.specs.declared.State.{State}
-use Rattle.job.specs.declared.Deed.{Deed}
 use Rattle.job.specs.declared.Turn.{Turn}
-use Rattle.job.specs.Record.{counted, kind-of, payload, Unframed, Clients}
-use Rattle.job.specs.Kinds.{skipped, Tells-of}
 
 -- "record number from 1 (skipped records count)"; after 2⁶⁴ - 1 records it is 0 again
 unfoldable pub next : ℕ → ℕ

@@ -5,17 +5,17 @@ ghost use Prim.Native.Nat.{ℕ};
 ghost use lib.ListN.{length};
 ghost use Rattle.rebuild.specs.Rebuild.{Cleared};
 ghost use Rattle.job.specs.Deciding.{Decides};
-use crate::Deed;
-use crate::Held;
-use crate::asking::check;
-use crate::asking::locate;
-use crate::rebuilding::mend;
-use crate::shaping::begin;
-use crate::telling::skip;
-use crate::telling::told;
-use crate::writing::store;
-use crate::writing::write;
-use shape::Answer;
+use answer::Answer;
+use kinds::Deed;
+use kinds::Held;
+use kinds::skip;
+use kinds::told;
+use mending::check;
+use mending::locate;
+use mending::mend;
+use setting::begin;
+use setting::store;
+use setting::write;
 
 // What a record comes to by its kind. The workspace is left to be cleared.
 pub(crate) fn decide(

@@ -8,11 +8,11 @@ ghost use Rattle.job.specs.Step.{Stepped};
 use crate::State;
 use crate::Turn;
 use crate::deciding::decide;
-use crate::framing::two_bytes;
-use crate::framing::unframed;
-use crate::telling::end;
-use crate::telling::made;
-use crate::telling::stop;
+use crate::turning::end;
+use crate::turning::made;
+use crate::turning::stop;
+use records::two_bytes;
+use records::unframed;
 
 // A step but for the clearing of the workspace.
 fn attempt(state: State, input: &[u8], stripe: &mut [u8], work: &mut [u8]) -> Turn

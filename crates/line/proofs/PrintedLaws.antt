@@ -10,10 +10,9 @@ use native.Mathlib.Omega.{arith}
 use borrow.Author.Tests.{lt-ltb, le-ltb}
 use lib.ListN.{length, getD, take, drop, set, length-append, length-drop, List·getD-append}
 use lib.Seq.{length-take-le, getD-append-seam, getD-append-add, getD-take, getD-drop, ext-getD, take-at, drop-append-add, drop-drop}
-use Rattle.xor.specs.Block.{Spanned}
+use Rattle.xor.specs.Spanned.{Spanned}
 use Rattle.xor.proofs.Span.{span-same, span-more}
-use Rattle.io.specs.Digits.{Fewest}
-use Rattle.io.specs.Digits.{digits as kit-digits}
+use Rattle.io.specs.Digits.{Fewest, digits as kit-digits}
 use Rattle.line.specs.Printed.{digits-within, digits, field}
 use Rattle.line.specs.Printing.{Put}
 

@@ -1,5 +1,4 @@
 // A line of the job program, and the line as text: its fields in decimal, with a space between them and a newline at the end.
-ghost use mathlib.Core.Path.{_≡_};
 ghost use Prim.Native.Nat.{_+_, _≤_};
 ghost use lib.ListN.{length};
 ghost use Rattle.line.specs.Printed.{field, Printed};

@@ -7,9 +7,10 @@ use native.Mathlib.Omega.{arith}
 use lib.ListN.{length}
 use Rattle.shape.specs.declared.Shape.{Shape}
 use Rattle.shape.specs.Good.{Good, size}
-use Rattle.shape.specs.Answers.{stripe-table}
+use Rattle.shape.specs.Refusals.{stripe-table}
 use Rattle.shape.proofs.GoodLaws.{stripe-done}
-use Rattle.shape.proofs.OutcomeLaws.{call-one, call-some, stripe-ready}
+use Rattle.answer.proofs.OutcomeLaws.{call-one, call-some}
+use Rattle.shape.proofs.Ready.{stripe-ready}
 use Rattle.rule.specs.declared.Losses.the-variants.{One}
 use Rattle.rule.specs.Rule.{Obeys}
 use Rattle.rule.specs.Losses.{Solves}

@@ -7,10 +7,10 @@ use Prim.Native.Nat.{ℕ, _+_, _-_, _%_, _≤_, _<_}
 use native.Mathlib.Omega.{arith}
 use native.Mathlib.Decide.{decLt}
 use lib.Count.{ones}
-use Rattle.xor.specs.Asked.{Tells}
+use Rattle.xor.specs.Tells.{Tells}
 use Rattle.xor.proofs.TotalLaws.{total-zero, total-same}
-use Rattle.xor.proofs.OnesLaws.{ones-zero, ones-none, total-clear}
-use Rattle.xor.proofs.AskedLaws.{tells-false}
+use Rattle.looking.proofs.OnesLaws.{ones-zero, ones-none, total-clear}
+use Rattle.xor.proofs.TellsLaws.{tells-false}
 use Rattle.shape.specs.declared.Shape.{Shape}
 use Rattle.shape.specs.Good.{Good}
 use Rattle.shape.specs.Step.{left, right}

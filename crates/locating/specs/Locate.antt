@@ -5,8 +5,9 @@ use mathlib.Core.List.{List}
 use Prim.Native.Nat.{ℕ, _≤_, _<_}
 use Rattle.shape.specs.declared.Shape.{Shape}
 use Rattle.shape.specs.Step.{left, right}
-use Rattle.shape.specs.Answers.{number, stripe-table}
-use Rattle.shape.specs.Outcome.{Outcome}
+use Rattle.answer.specs.Answers.{number}
+use Rattle.shape.specs.Refusals.{stripe-table}
+use Rattle.answer.specs.Outcome.{Outcome}
 use Rattle.rule.specs.declared.Losses.the-variants.{One}
 use Rattle.rule.specs.Rule.{Obeys, differs}
 use Rattle.rule.specs.Losses.{Solves}

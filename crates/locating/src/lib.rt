@@ -2,19 +2,20 @@
 // Each chain is counted once; bytes are compared only of two chains that differ by as many bits, and by some.
 ghost use Prim.Native.Nat.{_+_, _≤_, _<_};
 ghost use mathlib.Core.Path.{_≡_};
-ghost use Rattle.xor.specs.Asked.{Tells};
+ghost use Rattle.xor.specs.Tells.{Tells};
 ghost use Rattle.shape.specs.Good.{Good};
 ghost use Rattle.shape.specs.Step.{left, right};
-ghost use Rattle.shape.specs.Walk.{Walks};
+ghost use Rattle.walking.specs.Walk.{Walks};
 ghost use Rattle.chain.specs.Chain.{Part};
 ghost use Rattle.checking.specs.Bits.{Bits};
 ghost use Rattle.locating.specs.Locate.{Locate, found};
 ghost use Rattle.locating.specs.Locating.{Sized, Compares, Alike, Apart, Unbroken, Within, Searched};
+use answer::Answer;
 use chain::difference;
 use checking::bits_by_chain;
-use shape::Answer;
 use shape::Shape;
-use shape::Walk;
+use walking::Walk;
+use walking::along;
 
 // What locate finds.
 pub enum Damage {
@@ -43,8 +44,8 @@ fn level(
 {
     let mut acc = difference(shape, s, wk, from, len);
     let second = difference(shape, s, other, from, len);
-    xor::join(&mut acc, &second, len);
-    if !xor::none(&acc, len) {
+    block::join(&mut acc, &second, len);
+    if !looking::none(&acc, len) {
         *same = false;
     }
     len
@@ -74,8 +75,8 @@ fn alike(shape: Shape, s: &[u8], p: usize, q: usize) -> bool
     ensures { λ r. ⌜ Tells (Alike shape (now (s .entry)) p q) r ⌝ }
 {
     let w = shape.w;
-    let wk = shape.walk(p);
-    let other = shape.walk(q);
+    let wk = along(shape, p);
+    let other = along(shape, q);
     let mut same = true;
     let mut from = 0;
     while from < w {

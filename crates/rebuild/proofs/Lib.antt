@@ -1,3 +1,2 @@
 pub mod RebuildLaws
-pub mod CommittingLaws
 pub mod MendingLaws

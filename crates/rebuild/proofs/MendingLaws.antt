@@ -1,45 +1,61 @@
 -- Laws of a rebuild that is otherwise good: the lost columns staged are those of one stripe, and the survivors agree exactly where that stripe obeys the rule.
--- To cite: mend-good, mend-led, mend-stageable, mend-patchable, mend-disagree, mend-done.
-use mathlib.Core.Path.{_≡_, refl, sym, ap, ap₂, _∙_, subst}
-use mathlib.Core.Logic.{_≢_, _⊎_, inl, inr, ⊎-elim}
-use mathlib.Core.Bool.{Bool, true, false}
+-- To cite: mend-good, mend-led, mend-stageable, mend-patchable, mend-in-order, mend-disagree, mend-done.
+use mathlib.Core.Path.{_≡_, refl, sym, ap, _∙_, subst}
+use mathlib.Core.Logic.{inl, inr, ⊎-elim}
+use mathlib.Core.Bool.{true, false}
 use mathlib.Core.List.{List}
-use Prim.Native.Nat.{ℕ, zero, suc, _+_, _*_, _≤_, _<_}
+use Prim.Native.Nat.{ℕ, zero, suc, _*_, _≤_, _<_}
 use native.Mathlib.Omega.{arith}
 use native.Mathlib.Decide.{ℕ-discrete}
-use lib.ListN.{length, getD}
+use lib.ListN.{length}
 use Rattle.shape.specs.declared.Shape.{Shape}
 use Rattle.shape.specs.Good.{Good, size}
-use Rattle.shape.specs.Place.{column-length, byte}
+use Rattle.shape.specs.Place.{byte}
 use Rattle.shape.specs.Step.{left, right}
-use Rattle.shape.specs.Outcome.{Outcome}
+use Rattle.answer.specs.Outcome.{Outcome}
 use Rattle.shape.proofs.GoodLaws.{good-m, good-w, good-room, good-wide}
+use Rattle.shape.proofs.StepLaws.{Reach}
 use Rattle.shape.proofs.PlaceLaws.{byte-ext}
 use Rattle.rule.specs.declared.Losses.{Losses}
 use Rattle.rule.specs.Rule.{chain, differs, Obeys}
 use Rattle.rule.specs.Losses.{Beyond, Twice, Agrees, Bytes, Solves, Disagrees}
-use Rattle.rule.specs.Outer.{Used, Outer}
+use Rattle.rule.specs.Outer.{walk, reading, Used, Outer}
 use Rattle.rule.proofs.ChainLaws.{chain-cong}
 use Rattle.rule.proofs.RuleLaws.{obeys-differs}
-use Rattle.rule.proofs.Reading.{reading-lost, reading-used}
+use Rattle.rule.proofs.Reading.{reading-order, reading-lost, reading-used}
+use Rattle.rule.proofs.Solve.{Pair}
 use Rattle.rule.proofs.OuterLaws.{outer-one, outer-some}
 use Rattle.rule.proofs.SolvesLaws.{solves-outer}
 use Rattle.solving.specs.declared.Gone.{Gone}
 use Rattle.solving.specs.Outer.{column-of, chain-of, Solved}
-use Rattle.agreeing.specs.Agreeing.{patched, Uses, Holds, Agreed, Patchable}
-use Rattle.agreeing.proofs.AgreeingLaws.{patched-first, patched-second, patched-else, uses?}
+use Rattle.agreeing.specs.Agreeing.{patched, Uses, Agreed, Patchable, In-order}
+use Rattle.agreeing.proofs.AgreeingLaws.{patched-first, patched-second, patched-else, same-walk, uses?}
 use Rattle.staging.specs.Reading.{Read, Led}
 use Rattle.staging.specs.Staging.{Stageable, Staged}
-use Rattle.rebuild.specs.Committing.{stores-in-all, Made}
+use Rattle.committing.specs.Committing.{stores-in-all, Made}
 use Rattle.rebuild.specs.Rebuild.{late-table, Otherwise-good}
 use Rattle.staging.proofs.StagingLaws.{spot-fits}
 use Rattle.staging.proofs.ReadingLaws.{read-here, read-stageable, read-led, read-apart, read-staged}
-use Rattle.rebuild.proofs.CommittingLaws.{made-all}
+use Rattle.committing.proofs.CommittingLaws.{made-all}
 
 module _ (g : Gone) (lost : Losses) (r : Read (g .shape) lost g) (good : Good (g .shape)) (fit : ¬ Beyond (g .shape .n) lost) (apart : ¬ Twice lost) where
   -- what can be staged can be put in place
   pub read-patchable : (s out : List ℕ) → Stageable g s out → Patchable g s out
   read-patchable s out st = record { good = good; whole = st .whole; unlike = read-apart g lost r good fit apart; room = spot-fits g s out st }
+
+  -- and is in order
+  read-in-order : In-order g
+  read-in-order h = ⊎-elim (λ z. absurd (omega (arith, r .second-is, z .0))) pair (reading-order (g .shape .m) (g .shape .n) (good-wide (g .shape) good) lost fit apart)
+    where
+      pair : Pair (g .shape .m) (g .shape .n) (reading (g .shape .m) (g .shape .n) lost .0) (reading (g .shape .m) (g .shape .n) lost .1) (reading (g .shape .m) (g .shape .n) lost .2)
+          → (g .first < g .shape .n) × (2 * walk (g .shape .n) (g .first) (g .second) ≤ g .shape .n)
+      pair p =
+          let hf : g .first < g .shape .n = omega (arith, r .first-is, p .first-lt) in
+          let reach : Reach (g .shape .n) (g .first) (reading (g .shape .m) (g .shape .n) lost .2) (g .second) =
+          ⊎-elim (λ u. inl (omega (arith, r .first-is, r .second-is, u))) (λ u. inr (omega (arith, r .first-is, r .second-is, u))) (p .walk) in (
+            hf,
+            omega (arith, p .short, same-walk (g .shape .n) (g .first) (g .second) (reading (g .shape .m) (g .shape .n) lost .2) hf h (omega (arith, p .short, p .near)) reach),
+          )
 
   -- the chains that are used are those of the rule
   uses-used : (p : ℕ) → Uses g p → Used (g .shape .m) (g .shape .n) lost p
@@ -116,6 +132,9 @@ module _ (sh : Shape) (lost : Losses) (s : List ℕ) (room : ℕ) (call : Otherw
 
   pub mend-patchable : (work : List ℕ) → length work ≡ room → Patchable g s work
   mend-patchable work e = read-patchable g lost r (here .shape) (here .columns) (here .apart) s work (mend-stageable work e)
+
+  pub mend-in-order : In-order g
+  mend-in-order = read-in-order g lost r (here .shape) (here .columns) (here .apart)
 
   module _ (work : List ℕ) (staged : (v : ℕ → ℕ → ℕ → ℕ) → Solved g s v → Staged g v work) where
     -- the survivors disagree, and nothing is written

@@ -2,20 +2,22 @@
 use mathlib.Core.Path.{_≡_, refl, sym, ap, _∙_}
 use mathlib.Core.Logic.{_↔_, Iff·rfl, _≢_, _⊎_, inl, inr, ⊎-swap}
 use mathlib.Core.List.{List, [], _∷_}
-use Prim.Native.Nat.{ℕ, _*_, _<_}
+use Prim.Native.Nat.{ℕ, _*_}
 use native.Mathlib.Omega.{arith}
 use native.Mathlib.Decide.{decLt}
 use lib.ListN.{length, replicate, length-replicate, getD-replicate}
 use lib.Seq.{ext-getD}
 use Rattle.shape.specs.declared.Shape.{Shape}
-use Rattle.shape.specs.declared.Answer.{Answer}
-use Rattle.shape.specs.declared.Answer.the-variants.{Done, SmallWorkspace, NoSuchPlace, SameColumn, Disagree}
+use Rattle.answer.specs.declared.Answer.{Answer}
+use Rattle.answer.specs.declared.Answer.the-variants.{Done, SmallWorkspace, NoSuchPlace, SameColumn, Disagree}
 use Rattle.shape.specs.Place.{column-length}
-use Rattle.shape.specs.Answers.{number, Table, First, Rises, shape-table, stripe-table}
-use Rattle.shape.specs.Outcome.{Outcome}
-use Rattle.shape.proofs.AnswersLaws.{number-apart, number-done, first-one, first-stop, first-pass, first-clear, first-split, Lacks, Like, like-append, like-first}
+use Rattle.answer.specs.Answers.{number, First, Rises}
+use Rattle.shape.specs.Refusals.{shape-table, stripe-table}
+use Rattle.answer.specs.Outcome.{Outcome}
+use Rattle.answer.proofs.AnswersLaws.{number-apart, number-done, first-one, first-stop, first-pass, first-clear, first-split, Lacks, Like, like-append, like-first}
 use Rattle.shape.proofs.GoodLaws.{stripe-pass, stripe-clear, stripe-like}
-use Rattle.shape.proofs.OutcomeLaws.{Ready, ready-append, call-one, call-some, stripe-ready-rest}
+use Rattle.answer.proofs.OutcomeLaws.{Ready, ready-append, call-one, call-some}
+use Rattle.shape.proofs.Ready.{stripe-ready-rest}
 use Rattle.rule.specs.declared.Losses.{Losses}
 use Rattle.rule.specs.declared.Losses.the-variants.{Two}
 use Rattle.rule.specs.Losses.{Beyond, Twice, Agrees, Solves, Disagrees}

@@ -1,6 +1,5 @@
 // Rebuild: the lost columns of a stripe written from its survivors, if they agree.
 // Refusing, staging, asking the survivors, the commit and clearing are separate functions.
-mod committing;
 mod rebuilding;
 mod refusing;
 

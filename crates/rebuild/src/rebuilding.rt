@@ -1,16 +1,16 @@
 // Rebuild: refuse, stage, ask the survivors, write the lost columns; and clear the workspace, whatever came of it.
 ghost use mathlib.Core.Path.{_≡_};
 ghost use lib.ListN.{length};
-ghost use Rattle.shape.specs.Answers.{number};
-ghost use Rattle.shape.specs.Outcome.{Outcome};
+ghost use Rattle.answer.specs.Answers.{number};
+ghost use Rattle.answer.specs.Outcome.{Outcome};
 ghost use Rattle.rule.specs.Losses.{Solves};
 ghost use Rattle.rebuild.specs.Rebuild.{late-table, rebuild-table, Otherwise-good, Rebuild};
-use crate::committing::commit;
-use crate::committing::stores;
 use crate::refusing::refusal;
 use agreeing::agree;
+use answer::Answer;
+use committing::commit;
+use committing::stores;
 use rule::Losses;
-use shape::Answer;
 use shape::Shape;
 use staging::read;
 use staging::stage;

@@ -1,10 +1,10 @@
 // What a rebuild is refused for before its survivors are asked.
-ghost use Rattle.shape.specs.Answers.{number, First};
+ghost use Rattle.answer.specs.Answers.{number, First};
 ghost use Rattle.rebuild.specs.Rebuild.{early-table};
+use answer::Answer;
 use rule::Losses;
 use rule::beyond;
 use rule::twice;
-use shape::Answer;
 use shape::Shape;
 
 // The refusals 1 to 7 of a rebuild with a workspace of `room` bytes; Done where none applies.

@@ -7,7 +7,7 @@ use Prim.Native.Nat.{ℕ, _+_, _*_, _≤_, _<_}
 use native.Mathlib.Omega.{arith}
 use native.Mathlib.Decide.{decLe, decLt, ℕ-discrete}
 use Rattle.shape.specs.Step.{left, right}
-use Rattle.shape.proofs.OutcomeLaws.{either?}
+use Rattle.answer.proofs.OutcomeLaws.{either?}
 use Rattle.rule.specs.declared.Losses.{Losses}
 use Rattle.rule.specs.declared.Losses.the-variants.{None, One, Two}
 use Rattle.rule.specs.Losses.{Lost, Beyond, Twice}

@@ -2,7 +2,7 @@
 // Definitions and theorems; the only data is which columns are lost.
 
 ghost use mathlib.Core.Path.{_≡_};
-ghost use Rattle.xor.specs.Asked.{Tells};
+ghost use Rattle.xor.specs.Tells.{Tells};
 ghost use Rattle.rule.specs.Losses.{Beyond, Twice, Lost, named};
 
 // Which columns are lost, by the numbers that the caller names.

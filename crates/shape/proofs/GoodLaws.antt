@@ -9,8 +9,9 @@ use native.Mathlib.Decide.{decLe, ℕ-discrete}
 use lib.ListN.{length}
 use Rattle.shape.specs.declared.Shape.{Shape}
 use Rattle.shape.specs.Good.{Range, Within, Outside, rows, columns, symbol, most, size, Good}
-use Rattle.shape.specs.Answers.{Table, First, Rises, shape-table, stripe-table}
-use Rattle.shape.proofs.AnswersLaws.{Lacks, first-clear, first-pass, first-split, Like, like-refl, like-append}
+use Rattle.answer.specs.Answers.{Table, First, Rises}
+use Rattle.shape.specs.Refusals.{shape-table, stripe-table}
+use Rattle.answer.proofs.AnswersLaws.{Lacks, first-clear, first-pass, first-split, Like, like-refl, like-append}
 
 -- ---- within and outside
 

@@ -2,10 +2,8 @@ pub mod StepLaws
 pub mod PlaceLaws
 pub mod Made
 pub mod ColumnLaws
-pub mod AnswersLaws
 pub mod GoodLaws
-pub mod OutcomeLaws
+pub mod Ready
 pub mod Fits
 pub mod Asked
-pub mod WalkLaws
 pub mod Spans

@@ -1,5 +1,5 @@
 -- A span of a symbol's bytes in a stripe: those bytes are the new ones, and every other byte of every symbol is as it was.
-use mathlib.Core.Path.{_≡_, refl, sym, ap, _∙_}
+use mathlib.Core.Path.{_≡_, sym, ap, _∙_}
 use mathlib.Core.Logic.{_≢_, _⊎_, inl, inr, ⊎-elim}
 use mathlib.Core.List.{List}
 use Prim.Native.Nat.{ℕ, _+_, _-_, _≤_, _<_}
@@ -7,7 +7,7 @@ use native.Mathlib.Nat.{add-assoc}
 use native.Mathlib.Omega.{arith}
 use native.Mathlib.Decide.{decLt}
 use lib.ListN.{getD}
-use Rattle.xor.specs.Block.{Spanned}
+use Rattle.xor.specs.Spanned.{Spanned}
 use Rattle.shape.specs.declared.Shape.{Shape}
 use Rattle.shape.specs.Place.{place, byte}
 use Rattle.shape.proofs.PlaceLaws.{place-apart}

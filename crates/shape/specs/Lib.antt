@@ -1,8 +1,6 @@
 pub mod Good
 pub mod Place
 pub mod Step
-pub mod Answers
-pub mod Outcome
+pub mod Refusals
 pub mod Placed
-pub mod Walk
 pub mod Own

@@ -1,23 +1,22 @@
 -- For `own`: from the sources of a lost symbol to the symbol stored.
-use mathlib.Core.Path.{_≡_, refl, sym, ap, _∙_}
+use mathlib.Core.Path.{_≡_, sym, ap, _∙_}
 use mathlib.Core.Logic.{⊎-elim, inl, inr}
 use mathlib.Core.Bool.{true, cond, true≢false}
 use mathlib.Core.List.{List}
-use Prim.Native.Nat.{ℕ, _+_, _-_, _≤_, _<_}
+use Prim.Native.Nat.{ℕ, _+_, _-_, _<_}
 use native.Mathlib.Omega.{arith}
 use native.Mathlib.Decide.{decLt}
 use lib.Dec.{ltb}
 use borrow.Author.Tests.{le-ltb}
-use lib.ListN.{length, getD}
+use lib.ListN.{getD}
 use Rattle.xor.specs.Xor.{_⊕_}
-use Rattle.xor.specs.Block.{Spanned}
+use Rattle.xor.specs.Spanned.{Spanned}
 use Rattle.xor.proofs.Span.{span-same}
 use Rattle.shape.specs.declared.Shape.{Shape}
 use Rattle.shape.specs.Place.{byte}
 use Rattle.summing.specs.declared.Sum.{Sum}
-use Rattle.summing.specs.Sums.{summed, Clear, Summed}
+use Rattle.summing.specs.Sums.{summed, Clear, Summed, Apart}
 use Rattle.summing.specs.Sources.{besides, Sourced}
-use Rattle.solving.specs.Outer.{Apart}
 
 module _ (sh : Shape) (p side d h b : ℕ) (list : List ℕ) (x : Sum) (c : Sourced sh p side d side h b list x) where
   -- what is asked for is below m

@@ -13,12 +13,12 @@ use Rattle.shape.specs.Good.{Good}
 use Rattle.shape.specs.Place.{byte}
 use Rattle.shape.specs.Step.{left, right}
 use Rattle.shape.proofs.GoodLaws.{good-m, good-room, good-wide}
-use Rattle.shape.proofs.StepLaws.{Reach, left-lt, left-reach, right-lt, right-reach, left-is, right-is, further}
+use Rattle.shape.proofs.StepLaws.{left-lt, left-reach, right-lt, right-reach, left-is, right-is, further}
 use Rattle.rule.specs.declared.Losses.{Losses}
 use Rattle.rule.specs.Rule.{Grid, chain}
 use Rattle.rule.specs.Losses.{Beyond, Twice}
 use Rattle.rule.specs.Outer.{without, Outer}
-use Rattle.rule.proofs.Solve.{Order, Pair, side-column, side-chain, side-parts, asked-lt, cond-cong}
+use Rattle.rule.proofs.Solve.{Order, Pair, side-column, side-chain, side-parts, cond-cong}
 use Rattle.rule.proofs.Reading.{reading-order}
 use Rattle.rule.proofs.OuterLaws.{first-of, second-of, walk-of, outer-from}
 use Rattle.solving.specs.declared.Gone.{Gone}

@@ -1,20 +1,20 @@
 -- Laws of the outer-chain order under way: what is asked for is ready too, the stores end with the symbol's own, and that is the solved one.
-use mathlib.Core.Path.{_≡_, refl, sym, ap, ap₂, _∙_, subst}
+use mathlib.Core.Path.{_≡_, sym, ap, ap₂, _∙_, subst}
 use mathlib.Core.Bool.{cond}
 use mathlib.Core.List.{List}
-use Prim.Native.Nat.{ℕ, zero, suc, _+_, _-_, _*_, _%_, _≤_, _<_}
+use Prim.Native.Nat.{ℕ, zero, suc, _+_, _-_, _*_, _≤_, _<_}
 use native.Mathlib.Omega.{arith}
 use lib.Dec.{ltb}
-use borrow.Author.Tests.{lt-ltb, le-ltb}
 use lib.ListN.{length, getD}
 use Rattle.xor.specs.Xor.{_⊕_}
-use Rattle.xor.specs.Block.{Spanned}
+use Rattle.xor.specs.Spanned.{Spanned}
 use Rattle.xor.proofs.Span.{span-same}
 use Rattle.shape.specs.Place.{byte}
 use Rattle.rule.proofs.Solve.{cond-cong}
 use Rattle.solving.specs.declared.Gone.{Gone}
 use Rattle.summing.specs.Sources.{besides}
-use Rattle.solving.specs.Outer.{column-of, spot, chain-of, Solved, Stores, alone, after, Apart, turned, Ready}
+use Rattle.solving.specs.Outer.{column-of, spot, chain-of, Solved, Stores, alone, after, turned, Ready}
+use Rattle.summing.specs.Sums.{Apart}
 
 -- ---- ready
 
@@ -71,21 +71,6 @@ module _ (g : Gone) (side d : ℕ) (s out : List ℕ) (r : Ready g side d s out)
         (subst (λ (z : ℕ). Apart (spot g (turned 0 side) z) (spot g (turned (0 + 1) side) (d + g .walk)) (g .shape .w)) f
         (subst (λ (z : ℕ). Apart (spot g (turned 0 side) (d + 0 * g .walk)) (spot g (turned (0 + 1) side) z) (g .shape .w)) f₁
         (r .apart 0 (omega arith)))))
-
--- a buffer as long
-pub ready-like : (g : Gone) (side d : ℕ) (s out out′ : List ℕ) → length out′ ≡ length out → Ready g side d s out → Ready g side d s out′
-ready-like g side d s out out′ e r = record {
-  good = r .good;
-  whole = r .whole;
-  side-is = r .side-is;
-  high = r .high;
-  column = r .column;
-  other = r .other;
-  near = r .near;
-  short = r .short;
-  room = λ k l. (omega (arith, r .room k l .0), r .room k l .1);
-  apart = r .apart;
-}
 
 -- ---- the stores
 

@@ -1,17 +1,17 @@
 -- THE OUTER-CHAIN ORDER UNDER WAY (document 01): "the first column's symbol asks for the second's, and that for the first's". Definitions only.
 use mathlib.Core.Path.{_≡_}
-use mathlib.Core.Logic.{_⊎_}
 use mathlib.Core.Bool.{cond}
 use mathlib.Core.List.{List}
 use Prim.Native.Nat.{ℕ, zero, suc, _+_, _-_, _*_, _%_, _≤_, _<_}
 use lib.Dec.{ltb}
-use lib.ListN.{length, getD}
+use lib.ListN.{length}
 use Rattle.xor.specs.Xor.{_⊕_}
-use Rattle.xor.specs.Block.{Spanned}
+use Rattle.xor.specs.Spanned.{Spanned}
 use Rattle.shape.specs.Good.{Good, size}
 use Rattle.shape.specs.Place.{place, byte}
 use Rattle.shape.specs.Step.{left, right}
 use Rattle.solving.specs.declared.Gone.{Gone}
+use Rattle.summing.specs.Sums.{Apart}
 use Rattle.summing.specs.Sources.{besides}
 
 -- a side is 0 for first and 1 for second: its column, and where its symbol of height d stands in the buffer, the column being laid out as in a stripe
@@ -44,10 +44,6 @@ pub data Stores (g : Gone) (v : ℕ → ℕ → ℕ → ℕ) : ℕ → ℕ → L
   alone : (side d : ℕ) (out out′ : List ℕ) → g .shape .m ≤ d + g .walk → Spanned (v side d) out out′ (spot g side d) (g .shape .w) → Stores g v side d out out′
   after : (side d : ℕ) (out mid out′ : List ℕ) → d + g .walk < g .shape .m → Stores g v (1 - side) (d + g .walk) out mid
       → Spanned (v side d) mid out′ (spot g side d) (g .shape .w) → Stores g v side d out out′
-
--- the w bytes at a and those at b do not meet, or are the same
-abbrev pub Apart : ℕ → ℕ → ℕ → Type 0
-Apart a b w = (a + w ≤ b) ⊎ ((b + w ≤ a) ⊎ (a ≡ b))
 
 -- the side after k turns
 abbrev pub turned : ℕ → ℕ → ℕ

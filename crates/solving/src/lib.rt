@@ -3,6 +3,7 @@ use shape::Shape;
 
 mod outer;
 
+pub use outer::above;
 pub use outer::below;
 pub use outer::solve_first;
 pub use outer::solve_second;

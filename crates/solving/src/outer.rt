@@ -5,17 +5,18 @@ ghost use Prim.Native.Nat.{ℕ, _+_, _≤_, _<_};
 ghost use lib.Dec.{ltb};
 ghost use lib.ListN.{length, getD};
 ghost use Rattle.xor.specs.Xor.{_⊕_};
-ghost use Rattle.xor.specs.Block.{Spanned};
+ghost use Rattle.xor.specs.Spanned.{Spanned};
 ghost use Rattle.shape.specs.Good.{Good, size};
 ghost use Rattle.shape.specs.Place.{place, byte};
 ghost use Rattle.shape.specs.Placed.{Stepped};
 ghost use Rattle.shape.specs.Step.{left, right};
-ghost use Rattle.chain.specs.Places.{Table};
+ghost use Rattle.listing.specs.Places.{Table};
 ghost use Rattle.summing.specs.Sources.{besides};
-ghost use Rattle.solving.specs.Outer.{Solved, Stores, Apart, Ready};
+ghost use Rattle.solving.specs.Outer.{Solved, Stores, Ready};
+ghost use Rattle.summing.specs.Sums.{Apart};
 use crate::Gone;
 use shape::Shape;
-use summing::sources::sources;
+use summing::sources;
 use summing::sum_symbol;
 
 // The column d to the left of c, modulo n, without a division.
@@ -30,7 +31,7 @@ pub fn below(n: usize, c: usize, d: usize) -> usize
 }
 
 // The column d to the right of c, modulo n, without a division.
-fn above(n: usize, c: usize, d: usize) -> usize
+pub fn above(n: usize, c: usize, d: usize) -> usize
     requires { ⌜ (c < n) × (d < n) × (n ≤ 64) ⌝ }
     ensures { λ r. ⌜ Stepped n (right n c d) r ⌝ }
 {
@@ -57,8 +58,8 @@ fn own(
     requires { ⌜ (Good sh) × (length (now s) ≡ size sh) × (p < sh .n) × (side ≤ 1) × (d < sh .m) × (d < h) × (Table sh (now table)) × (at + sh .w ≤ length (now out)) × (h < sh .m → (b + sh .w ≤ length (now out)) × (b + sh .w ≤ 262144) × Apart at b (sh .w)) ⌝ }
     ensures { λ _. ⌜ Spanned (λ t. besides (sh .m) (sh .n) (byte sh (now (s .entry)) t) p side d side h ⊕ cond (ltb h (sh .m)) (getD (now (out .entry)) (b + t) 0) 0) (now (out .entry)) (now (out .exit)) at (sh .w) ⌝ }
 {
-    let mut list = chain::shifted(table, sh, p);
-    chain::wrap(&mut list, sh, p);
+    let mut list = listing::shifted(table, sh, p);
+    listing::wrap(&mut list, sh, p);
     let from = sources(&mut list, sh, p, side, d, side, h, b);
     sum_symbol(sh.w, s, out, &list, from, at);
 }

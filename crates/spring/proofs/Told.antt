@@ -7,14 +7,15 @@ use native.Mathlib.Omega.{arith}
 use native.Mathlib.Decide.{decLt}
 use lib.ListN.{length, getD}
 use lib.Seq.{ext-getD}
-use Rattle.xor.specs.Block.{Spanned}
-use Rattle.xor.specs.Asked.{Zero}
+use Rattle.xor.specs.Spanned.{Spanned}
+use Rattle.looking.specs.Looking.{Zero}
 use Rattle.shape.specs.declared.Shape.{Shape}
-use Rattle.shape.specs.declared.Answer.{Answer}
+use Rattle.answer.specs.declared.Answer.{Answer}
 use Rattle.shape.specs.Good.{size, Good, shape}
 use Rattle.shape.specs.Place.{row, slot, place, byte}
-use Rattle.shape.specs.Answers.{number, stripe-table}
-use Rattle.shape.proofs.AnswersLaws.{first-one}
+use Rattle.answer.specs.Answers.{number}
+use Rattle.shape.specs.Refusals.{stripe-table}
+use Rattle.answer.proofs.AnswersLaws.{first-one}
 use Rattle.shape.proofs.GoodLaws.{stripe-done}
 use Rattle.rule.specs.declared.Losses.{Losses}
 use Rattle.rule.specs.declared.Losses.the-variants.{Two}

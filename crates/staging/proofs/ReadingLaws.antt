@@ -1,16 +1,16 @@
 -- Laws of the losses read: which of two columns is first, and what is staged can be staged.
-use mathlib.Core.Path.{_≡_, refl, sym, ap, ap₂, _∙_, subst}
+use mathlib.Core.Path.{_≡_, refl, sym, ap₂, _∙_, subst}
 use mathlib.Core.Logic.{_≢_, Ne·symm, ⊎-elim}
 use mathlib.Core.Bool.{Bool, true, false, cond}
 use mathlib.Core.List.{List}
-use Prim.Native.Nat.{ℕ, zero, suc, _+_, _-_, _*_, _≤_, _<_}
+use Prim.Native.Nat.{ℕ, zero, suc, _*_, _≤_, _<_}
 use native.Mathlib.Omega.{arith}
 use native.Mathlib.Decide.{decLt}
-use lib.Dec.{eqb, ltb}
+use lib.Dec.{ltb}
 use lib.ListN.{length}
 use borrow.Author.Tests.{eq-eqb, ne-eqb, lt-ltb, le-ltb}
-use Rattle.xor.specs.Asked.{Tells}
-use Rattle.xor.proofs.AskedLaws.{tells-true, tells-false}
+use Rattle.xor.specs.Tells.{Tells}
+use Rattle.xor.proofs.TellsLaws.{tells-true, tells-false}
 use Rattle.shape.specs.declared.Shape.{Shape}
 use Rattle.shape.specs.Good.{Good, size}
 use Rattle.shape.specs.Place.{column-length, byte}
@@ -19,7 +19,7 @@ use Rattle.rule.specs.declared.Losses.{Losses}
 use Rattle.rule.specs.declared.Losses.the-variants.{Two}
 use Rattle.rule.specs.Losses.{Beyond, Twice}
 use Rattle.rule.specs.Outer.{walk, first, second, reading, Outer}
-use Rattle.rule.proofs.OrderLaws.{walk-lt, first-in}
+use Rattle.rule.proofs.OrderLaws.{first-in}
 use Rattle.rule.proofs.Reading.{reading-order}
 use Rattle.rule.proofs.Solve.{Order, side-column, order-near, order-apart, asked-lt}
 use Rattle.solving.specs.declared.Gone.{Gone}

@@ -1,13 +1,13 @@
 -- Laws of staging: each symbol has its own place in the workspace, so that what is right stays right; a start solves its whole way; all starts solve all.
 use mathlib.Core.Path.{_≡_, refl, sym, ap, _∙_, subst}
-use mathlib.Core.Logic.{_≢_, _⊎_, inl, inr, ⊎-elim}
+use mathlib.Core.Logic.{_⊎_, inl, inr, ⊎-elim}
 use mathlib.Core.List.{List}
 use Prim.Native.Nat.{ℕ, zero, suc, _+_, _-_, _*_, _/_, _%_, _≤_, _<_}
 use native.Mathlib.Nat.{mod-lt, div-add-mod'}
 use native.Mathlib.Omega.{arith}
-use native.Mathlib.Decide.{decLt, decLe, ℕ-discrete}
+use native.Mathlib.Decide.{decLt, ℕ-discrete}
 use lib.ListN.{length, getD}
-use Rattle.xor.specs.Block.{Spanned}
+use Rattle.xor.specs.Spanned.{Spanned}
 use Rattle.shape.specs.declared.Shape.{Shape}
 use Rattle.shape.specs.Good.{Good, most}
 use Rattle.shape.specs.Place.{place, column-length}
@@ -15,7 +15,8 @@ use Rattle.shape.proofs.GoodLaws.{good-m, good-w, good-wide}
 use Rattle.shape.proofs.PlaceLaws.{front-lt, place-apart, place-lt}
 use Rattle.shape.proofs.Spans.{place-add}
 use Rattle.solving.specs.declared.Gone.{Gone}
-use Rattle.solving.specs.Outer.{column-of, base-of, spot, Stores, Apart, turned, Ready}
+use Rattle.solving.specs.Outer.{column-of, base-of, spot, Stores, turned, Ready}
+use Rattle.summing.specs.Sums.{Apart}
 use Rattle.solving.proofs.StoresLaws.{stores-keep, stores-bring}
 use Rattle.staging.specs.Staging.{Stageable, Right, Staged, SolvesIf, StagedFrom}
 

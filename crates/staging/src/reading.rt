@@ -2,9 +2,8 @@
 ghost use mathlib.Core.Path.{_≡_};
 ghost use mathlib.Core.Logic.{_≢_};
 ghost use Prim.Native.Nat.{_≤_, _<_};
-ghost use Rattle.xor.specs.Asked.{Tells};
+ghost use Rattle.xor.specs.Tells.{Tells};
 ghost use Rattle.shape.specs.Good.{Good};
-ghost use Rattle.shape.specs.Place.{column-length};
 ghost use Rattle.rule.specs.declared.Losses.the-variants.{Two};
 ghost use Rattle.rule.specs.Losses.{Beyond, Twice};
 ghost use Rattle.rule.specs.Outer.{first, walk};

@@ -1,8 +1,8 @@
 // Staging: the lost columns solved in the workspace, while the stripe stays as it is.
 ghost use mathlib.Core.Path.{_≡_};
-ghost use Prim.Native.Nat.{ℕ, _≤_, _<_};
+ghost use Prim.Native.Nat.{ℕ, _<_};
 ghost use lib.ListN.{length};
-ghost use Rattle.chain.specs.Places.{Table};
+ghost use Rattle.listing.specs.Places.{Table};
 ghost use Rattle.solving.specs.Outer.{Solved};
 ghost use Rattle.staging.specs.Staging.{Stageable, Staged, SolvesIf, Lesser};
 use solving::Gone;
@@ -44,7 +44,7 @@ pub fn stage(s: &[u8], out: &mut [u8], x: Gone)
     requires { ⌜ Stageable x (now s) (now out) ⌝ }
     ensures { λ _. ⌜ (length (now (out .exit)) ≡ length (now (out .entry))) × ((v : ℕ → ℕ → ℕ → ℕ) → Solved x (now (s .entry)) v → Staged x v (now (out .exit))) ⌝ }
 {
-    let table = chain::table(x.shape);
+    let table = listing::table(x.shape);
     let mut left = lesser(x.walk, x.shape.m);
     while 0 < left {
         left -= 1;

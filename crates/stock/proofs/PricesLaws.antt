@@ -3,7 +3,8 @@ use mathlib.Core.Path.{_≡_, refl, sym, _∙_}
 use Rattle.shape.specs.declared.Shape.{Shape}
 use Rattle.stock.specs.declared.Priced.{Priced}
 use Rattle.stock.specs.Prices.{Prices, Four, figures}
-use Rattle.shape.proofs.OutcomeLaws.{call-one, call-some, shape-ready}
+use Rattle.answer.proofs.OutcomeLaws.{call-one, call-some}
+use Rattle.shape.proofs.Ready.{shape-ready}
 
 pub prices-one : (sh : Shape) (a b : Priced) → Prices sh a → Prices sh b → a ≡ b
 prices-one sh a b p q =

@@ -10,11 +10,11 @@ use lib.Dec.{leb}
 use borrow.Author.Tests.{leb-true}
 use Rattle.shape.specs.declared.Shape.{Shape}
 use Rattle.stock.specs.declared.Stocked.{Stocked}
-use Rattle.shape.specs.declared.Answer.the-variants.{NoSuchStock}
+use Rattle.answer.specs.declared.Answer.the-variants.{NoSuchStock}
 use Rattle.shape.specs.Good.{Range, Within, rows, columns, symbol, most, size, Good}
-use Rattle.shape.specs.Answers.{number, Rises}
+use Rattle.answer.specs.Answers.{number, Rises}
 use Rattle.stock.specs.Stock.{stock, stock-table, zero-shape, Stock}
-use Rattle.shape.proofs.OutcomeLaws.{call-one, call-some}
+use Rattle.answer.proofs.OutcomeLaws.{call-one, call-some}
 
 -- ---- good: the test, over the table, and what it tells of each entry
 

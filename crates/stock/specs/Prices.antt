@@ -3,8 +3,9 @@ use mathlib.Core.Path.{_≡_}
 use Prim.Native.Nat.{ℕ, _-_, _*_}
 use Rattle.shape.specs.declared.Shape.{Shape}
 use Rattle.stock.specs.declared.Priced.{Priced}
-use Rattle.shape.specs.Answers.{number, shape-table}
-use Rattle.shape.specs.Outcome.{Outcome}
+use Rattle.answer.specs.Answers.{number}
+use Rattle.shape.specs.Refusals.{shape-table}
+use Rattle.answer.specs.Outcome.{Outcome}
 
 -- "encode n(2m-3)"
 unfoldable pub encode-price : Shape → ℕ

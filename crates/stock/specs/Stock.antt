@@ -6,8 +6,8 @@ use lib.ListN.{getD}
 use Rattle.shape.specs.declared.Shape.{Shape}
 use Rattle.stock.specs.declared.Stocked.{Stocked}
 use Rattle.shape.specs.Good.{shape}
-use Rattle.shape.specs.Answers.{number, Table}
-use Rattle.shape.specs.Outcome.{Outcome}
+use Rattle.answer.specs.Answers.{number, Table}
+use Rattle.answer.specs.Outcome.{Outcome}
 
 -- "Stock shapes, numbers 0 to 9, as (m, n, w)"
 unfoldable pub stock : List Shape

@@ -1,5 +1,5 @@
 // What is on offer: the stock shapes by their numbers, and what a shape costs.
-use shape::Answer;
+use answer::Answer;
 use shape::Shape;
 
 mod price_list;

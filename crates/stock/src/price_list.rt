@@ -4,7 +4,7 @@ ghost use Prim.Native.Nat.{_-_, _*_, _≤_};
 ghost use Rattle.shape.specs.Good.{Good};
 ghost use Rattle.stock.specs.Prices.{Prices, symbols-read};
 use crate::Priced;
-use shape::Answer;
+use answer::Answer;
 use shape::Shape;
 
 // What it costs to make so many symbols, each the XOR of the 2m-2 others of its chain; whoever calls it has had `refusal` answer Done.

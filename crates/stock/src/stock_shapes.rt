@@ -1,7 +1,7 @@
 // The stock shapes, numbers 0 to 9.
 ghost use Rattle.stock.specs.Stock.{Stock};
 use crate::Stocked;
-use shape::Answer;
+use answer::Answer;
 use shape::Shape;
 
 // The highest number of a stock shape.

@@ -1,6 +1,5 @@
 -- Laws of flat: a place replaced, the last one put where one is dropped, and the list of a chain.
 use mathlib.Core.Path.{_≡_, refl, sym, ap, ap₂, _∙_, subst}
-use mathlib.Core.Logic.{_⊎_, inl, inr, ⊎-elim}
 use mathlib.Core.List.{List}
 use Prim.Native.Nat.{ℕ, zero, suc, _+_, _-_, _*_, _/_, _≤_, _<_}
 use native.Mathlib.Omega.{arith}
@@ -18,7 +17,7 @@ use Rattle.shape.proofs.GoodLaws.{good-m, good-room}
 use Rattle.shape.proofs.Spans.{place-add}
 use Rattle.shape.proofs.StepLaws.{left-lt, right-lt}
 use Rattle.rule.specs.Rule.{others}
-use Rattle.chain.specs.Places.{Listed, Laid}
+use Rattle.listing.specs.Places.{Laid}
 use Rattle.summing.specs.Sums.{flat}
 use Rattle.summing.proofs.SumsLaws.{entry, flat-none, flat-suc, flat-two}
 

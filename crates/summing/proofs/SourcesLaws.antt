@@ -1,12 +1,11 @@
 -- Laws of the sources of a lost symbol: what the list gives with the lost symbol's place taken by the parity symbol's, and the asked one's by the last.
 use mathlib.Core.Path.{_≡_, refl, sym, ap, ap₂, _∙_}
 use mathlib.Core.Logic.{_≢_, _⊎_, ⊎-elim}
-use mathlib.Core.Bool.{true, false, cond}
+use mathlib.Core.Bool.{true, false}
 use mathlib.Core.List.{List}
-use Prim.Native.Nat.{ℕ, zero, suc, _+_, _-_, _*_, _%_, _≤_, _<_}
+use Prim.Native.Nat.{ℕ, zero, suc, _+_, _-_, _*_, _≤_, _<_}
 use native.Mathlib.Omega.{arith}
 use native.Mathlib.Decide.{ℕ-discrete}
-use lib.Dec.{ltb}
 use borrow.Author.Tests.{lt-ltb, le-ltb}
 use lib.ListN.{length, getD, set, length-set}
 use lib.Seq.{getD-set-same, getD-set-other}
@@ -17,9 +16,8 @@ use Rattle.shape.specs.Good.{Good, size}
 use Rattle.shape.specs.Place.{byte}
 use Rattle.shape.proofs.StepLaws.{left-zero, right-zero}
 use Rattle.rule.specs.Rule.{others, chain}
-use Rattle.chain.specs.Places.{Laid}
-use Rattle.summing.specs.declared.Sum.{Sum}
-use Rattle.summing.specs.Sums.{flat, summed, Fits}
+use Rattle.listing.specs.Places.{Laid}
+use Rattle.summing.specs.Sums.{flat, summed}
 use Rattle.summing.specs.Sources.{beside, besides, Sourced}
 use Rattle.summing.proofs.SumsLaws.{entry}
 use Rattle.summing.proofs.FlatLaws.{top-at, next-at, flat-set, flat-drop, left-entry, right-entry, parity-entry, flat-others, laid-ends}

@@ -1,12 +1,12 @@
 -- SUMS OVER A LIST OF PLACES: what a symbol is put together from. Definitions only.
 use mathlib.Core.Path.{_≡_}
 use mathlib.Core.Logic.{_⊎_}
-use mathlib.Core.Bool.{Bool, true, cond}
+use mathlib.Core.Bool.{true, cond}
 use mathlib.Core.List.{List}
 use Prim.Native.Nat.{ℕ, zero, suc, _+_, _-_, _%_, _≤_, _<_}
 use lib.ListN.{length, getD}
 use Rattle.xor.specs.Xor.{_⊕_}
-use Rattle.xor.specs.Block.{Spanned}
+use Rattle.xor.specs.Spanned.{Spanned}
 use Rattle.summing.specs.declared.Sum.{Sum}
 
 -- the XOR of the bytes that stand t after the first k places of the list
@@ -29,9 +29,13 @@ pub record Fits (s out list : List ℕ) (x : Sum) (to : ℕ) : Type 0 where
   pub b-in : x .b + to ≤ length (cond (x .asked) out s)
   pub b-small : x .b + to ≤ 262144
 
--- the symbol of w bytes at `at` of the buffer does not meet the one that was asked for, or stands where it stood
+-- the w bytes at a and those at b do not meet, or are the same
+abbrev pub Apart : ℕ → ℕ → ℕ → Type 0
+Apart a b w = (a + w ≤ b) ⊎ ((b + w ≤ a) ⊎ (a ≡ b))
+
+-- the symbol of w bytes at `at` of the buffer is apart from the one that was asked for, or stands where it stood
 abbrev pub Clear : Sum → ℕ → ℕ → Type 0
-Clear x at w = x .asked ≡ true → (at + w ≤ x .b) ⊎ ((x .b + w ≤ at) ⊎ (at ≡ x .b))
+Clear x at w = x .asked ≡ true → Apart at (x .b) w
 
 -- out′ is `out` with the bytes lo to hi - 1 of the symbol at `at` set to those of the sum
 abbrev pub Summed : List ℕ → List ℕ → Sum → ℕ → ℕ → ℕ → List ℕ → List ℕ → Type 0

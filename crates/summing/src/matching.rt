@@ -2,10 +2,10 @@
 ghost use mathlib.Core.Path.{_≡_};
 ghost use Prim.Native.Nat.{_+_, _%_, _≤_, _<_};
 ghost use lib.ListN.{length};
-ghost use Rattle.xor.specs.Asked.{Tells};
-ghost use Rattle.xor.specs.Block.{longest};
-ghost use Rattle.summing.specs.Sums.{Fits};
-ghost use Rattle.summing.specs.Matching.{Level, Matched, Found};
+ghost use Rattle.xor.specs.Tells.{Tells};
+ghost use Rattle.block.specs.Block.{longest};
+ghost use Rattle.summing.specs.Sums.{Fits, summed};
+ghost use Rattle.summing.specs.Matching.{Level, Matched, Found, bytes-at};
 use crate::Sum;
 use crate::sums::sum;
 
@@ -21,10 +21,10 @@ fn match_part<'a>(
     len: usize,
 ) -> usize
     requires { ⌜ (len ≤ longest) × (Fits (now s) (now out) (now list) x (from + len)) × (at + (from + len) ≤ length (now u)) ⌝ }
-    ensures { λ r. ⌜ Matched (now (s .entry)) (now (out .entry)) (now (list .entry)) x (now (u .entry)) at from len r ⌝ }
+    ensures { λ r. ⌜ Matched (summed (now (s .entry)) (now (out .entry)) (now (list .entry)) x) (bytes-at (now (u .entry)) at) from len r ⌝ }
 {
     let acc = sum(s, out, list, x, from, len);
-    if xor::same(&acc, u, at + from, len) {
+    if looking::same(&acc, u, at + from, len) {
         return len;
     }
     0
@@ -41,7 +41,7 @@ fn match_blocks<'a>(
     whole: usize,
 ) -> bool
     requires { ⌜ (Fits (now s) (now out) (now list) x whole) × (at + whole ≤ length (now u)) × (whole % 128 ≡ 0) ⌝ }
-    ensures { λ r. ⌜ Tells (Level (now (s .entry)) (now (out .entry)) (now (list .entry)) x (now (u .entry)) at 0 whole) r ⌝ }
+    ensures { λ r. ⌜ Tells (Level (summed (now (s .entry)) (now (out .entry)) (now (list .entry)) x) (bytes-at (now (u .entry)) at) 0 whole) r ⌝ }
 {
     let mut from = 0;
     while from < whole {
@@ -66,7 +66,7 @@ fn match_some<'a>(
     from: usize,
 ) -> usize
     requires { ⌜ (Fits (now s) (now out) (now list) x w) × (at + w ≤ length (now u)) × (from < w) ⌝ }
-    ensures { λ r. ⌜ Found (now (s .entry)) (now (out .entry)) (now (list .entry)) x (now (u .entry)) at from w r ⌝ }
+    ensures { λ r. ⌜ Found (summed (now (s .entry)) (now (out .entry)) (now (list .entry)) x) (bytes-at (now (u .entry)) at) from w r ⌝ }
 {
     let left = w - from;
     if left < 16 {
@@ -90,7 +90,7 @@ fn match_tail<'a>(
     start: usize,
 ) -> bool
     requires { ⌜ (Fits (now s) (now out) (now list) x w) × (at + w ≤ length (now u)) × (start ≤ w) ⌝ }
-    ensures { λ r. ⌜ Tells (Level (now (s .entry)) (now (out .entry)) (now (list .entry)) x (now (u .entry)) at start w) r ⌝ }
+    ensures { λ r. ⌜ Tells (Level (summed (now (s .entry)) (now (out .entry)) (now (list .entry)) x) (bytes-at (now (u .entry)) at) start w) r ⌝ }
 {
     let mut from = start;
     while from < w {
@@ -114,7 +114,7 @@ pub fn matches<'a>(
     at: usize,
 ) -> bool
     requires { ⌜ (Fits (now s) (now out) (now list) x w) × (at + w ≤ length (now u)) ⌝ }
-    ensures { λ r. ⌜ Tells (Level (now (s .entry)) (now (out .entry)) (now (list .entry)) x (now (u .entry)) at 0 w) r ⌝ }
+    ensures { λ r. ⌜ Tells (Level (summed (now (s .entry)) (now (out .entry)) (now (list .entry)) x) (bytes-at (now (u .entry)) at) 0 w) r ⌝ }
 {
     let whole = w - w % 128;
     if match_blocks(s, out, list, x, u, at, whole) {

@@ -3,7 +3,7 @@
 ghost use mathlib.Core.Path.{_≡_};
 ghost use Prim.Native.Nat.{_+_, _%_, _≤_, _<_};
 ghost use lib.ListN.{length};
-ghost use Rattle.xor.specs.Block.{longest, Block};
+ghost use Rattle.block.specs.Block.{longest, Block};
 ghost use Rattle.summing.specs.Sums.{summed, Fits, Clear, Summed};
 use crate::Sum;
 
@@ -21,10 +21,10 @@ pub(crate) fn sum<'a>(
 {
     let t: &'a [u8] = if x.asked { out } else { s };
     let mut acc = [0u8; 128];
-    xor::both(&mut acc, s, x.a + from, t, x.b + from, len);
+    block::both(&mut acc, s, x.a + from, t, x.b + from, len);
     let mut i = 0;
     while i < x.count {
-        xor::pair(
+        block::pair(
             &mut acc,
             s,
             list[i] as usize + from,
@@ -50,7 +50,7 @@ fn sum_part(
     ensures { λ r. ⌜ (r ≡ len) × (Summed (now (s .entry)) (now (list .entry)) x at from (from + r) (now (out .entry)) (now (out .exit))) ⌝ }
 {
     let acc = sum(s, out, list, x, from, len);
-    xor::put(&acc, out, at + from, len);
+    block::put(&acc, out, at + from, len);
     len
 }
 

@@ -1,6 +1,7 @@
 // Bytes to try the calls on, and what is asked of them.
 ghost use lib.ListN.{length};
-ghost use Rattle.xor.specs.Asked.{Tells, Zero};
+ghost use Rattle.xor.specs.Tells.{Tells};
+ghost use Rattle.looking.specs.Looking.{Zero};
 
 // Fills s with bytes that go on from the seed, each its own way.
 pub fn pattern(s: &mut [u8], seed: usize) {

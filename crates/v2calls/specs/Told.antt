@@ -5,8 +5,8 @@ use mathlib.Core.List.{List}
 use Prim.Native.Nat.{ℕ, zero, suc, _≤_}
 use denote.Ref.{RefT}
 use lib.ListN.{length}
-use Rattle.shape.specs.declared.Answer.{Answer}
-use Rattle.shape.specs.Answers.{number}
+use Rattle.answer.specs.declared.Answer.{Answer}
+use Rattle.answer.specs.Answers.{number}
 use Rattle.rule.specs.declared.Losses.{Losses}
 use Rattle.rule.specs.Losses.{named}
 use Rattle.encoding.specs.Encode.{Encode}
@@ -14,9 +14,9 @@ use Rattle.checking.specs.declared.Checked.{Checked}
 use Rattle.checking.specs.Check.{Check}
 use Rattle.locating.specs.declared.Located.{Located}
 use Rattle.locating.specs.Locate.{Locate, found}
-use Rattle.stripe.specs.Write.{SmallWrite}
-use Rattle.stripe.specs.Store.{RawStore}
-use Rattle.stripe.specs.Handed.{Handed}
+use Rattle.writing.specs.Write.{SmallWrite}
+use Rattle.storing.specs.Store.{RawStore}
+use Rattle.handing.specs.Handed.{Handed}
 use Rattle.rebuild.specs.Rebuild.{Rebuild}
 use Rattle.filling.specs.Fill.{Fill}
 use Rattle.filling.specs.HandedBack.{HandedBack}

@@ -1,10 +1,9 @@
 // The head of a call: its number, the shape, four numbers and the lengths of its two buffers.
 ghost use mathlib.Core.Path.{_≡_};
 ghost use Prim.Native.Nat.{_+_, _≤_, _<_};
-ghost use Rattle.xor.specs.Asked.{Tells};
+ghost use Rattle.xor.specs.Tells.{Tells};
 ghost use Rattle.v2calls.specs.Little.{two as little·two, four as little·four, eight as little·eight};
-ghost use Rattle.v2calls.specs.Heads.{Admitted};
-ghost use Rattle.v2calls.specs.Heads.{spelled as heads·spelled};
+ghost use Rattle.v2calls.specs.Heads.{Admitted, spelled as heads·spelled};
 use shape::Shape;
 
 // The most bytes of the first buffer.

@@ -3,12 +3,11 @@ ghost use mathlib.Core.Path.{_≡_};
 ghost use Prim.Native.Nat.{_≤_};
 ghost use lib.ListN.{length};
 ghost use Rattle.locating.specs.Locate.{found};
-ghost use Rattle.v2calls.specs.Told.{plain, Checks, Locates, Rebuilds, PricesOf, StockOf, Makes, HandsOut};
-ghost use Rattle.v2calls.specs.Told.{if-done as told·if-done};
+ghost use Rattle.v2calls.specs.Told.{plain, Checks, Locates, Rebuilds, PricesOf, StockOf, Makes, HandsOut, if-done as told·if-done};
 use crate::heading::Head;
+use answer::Answer;
 use locating::Damage;
 use rule::named;
-use shape::Answer;
 
 // What a line tells of a call: its answer's number and the four numbers after it.
 pub struct Told {
@@ -149,8 +148,8 @@ pub(crate) fn make(head: Head, first: &mut [u8], second: &mut [u8]) -> Told
         1 => answered(encoding::encode(shape, first)),
         2 => checked(head, first),
         3 => located(head, first),
-        4 => answered(stripe::small_write(shape, first, head.a, head.b, second)),
-        5 => answered(stripe::raw_store(shape, first, head.a, head.b, second)),
+        4 => answered(writing::small_write(shape, first, head.a, head.b, second)),
+        5 => answered(storing::raw_store(shape, first, head.a, head.b, second)),
         6 => rebuilt(head, first, second),
         7 => answered(filling::fill(shape, first, named(head.a, head.b, head.c), head.d, second)),
         10 => priced(head),
@@ -172,7 +171,7 @@ pub(crate) fn part<'a>(head: Head, first: &'a [u8], second: &'a [u8]) -> &'a [u8
             head.d,
             second,
         ),
-        9 => stripe::column(head.shape, first, head.a),
+        9 => handing::column(head.shape, first, head.a),
         _ => &first[0..0],
     }
 }

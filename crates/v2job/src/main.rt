@@ -2,11 +2,11 @@
 ghost use mathlib.Core.Path.{_≡_};
 ghost use Prim.Native.Nat.{ℕ, _-_, _≤_};
 ghost use lib.ListN.{length, take, drop};
-ghost use Rattle.job.specs.declared.Held.the-variants.{None};
+ghost use Rattle.kinds.specs.declared.Held.the-variants.{None};
 ghost use Rattle.line.specs.Printed.{longest-line};
 ghost use Rattle.v2job.specs.Waiting.{longest-record, Waits, Refilled, Collects, Ready, Added, Shows, Goes, Turned};
-use job::Held;
 use job::State;
+use kinds::Held;
 use line::LONGEST_LINE;
 use line::Line;
 

@@ -7,7 +7,7 @@ use native.Mathlib.Omega.{arith}
 use borrow.Author.Count.{below-more}
 use lib.ListN.{length, getD, set, length-set}
 use lib.Seq.{getD-set-same, getD-set-other}
-use Rattle.xor.specs.Block.{Spanned}
+use Rattle.xor.specs.Spanned.{Spanned}
 
 -- nothing is stored yet
 pub span-none : (f : ℕ → ℕ) (xs : List ℕ) (to : ℕ) → Spanned f xs xs to 0

@@ -1,4 +1,4 @@
 pub mod Xor
 pub mod Total
-pub mod Block
-pub mod Asked
+pub mod Spanned
+pub mod Tells

@@ -1,57 +1,90 @@
--- `agree`. The invariant: the chains before p pass. The measure: the chains to go.
-use Prim.Native.Nat.{ℕ, _-_, _≤_, _<_}
+-- `agree`: none is lost and every chain is tested as it stands, or those between the lost columns are tested and those beyond them.
 use native.Mathlib.Omega.{arith}
+use borrow.Author.Needs.{needs}
 use borrow.Author.Tests.{not-true, not-false}
-use Rattle.xor.proofs.AskedLaws.{tells-true, tells-false, told-no}
-use Rattle.agreeing.specs.Agreeing.{Passes}
-use Rattle.agreeing.proofs.AgreeingLaws.{passed-next}
+use Rattle.xor.proofs.TellsLaws.{tells-false, told-no}
+use Rattle.agreeing.proofs.StretchLaws.{ends, between-free, agreed-tells, agreed-not, agreed-none}
 use Rattle.agreeing.proofs.agree.Statement.{statement}
 use Rattle.agreeing.proofs.agree.Tie as tie
 
-abbrev Inv-loop : tie.InvT-loop
-Inv-loop s out x table p₀ p = (p ≤ x .shape .n) × ((q : ℕ) → q < p → Passes x s out q)
+all-even-requires : tie.Need-all-even-requires
+all-even-requires c κs = let s = c .before .before .before .before .before .before in let good = s .pre .0 .good in (good, s .pre .0 .whole, omega (arith, good .n-fits .0, good .m-fits .0), omega arith)
 
-abbrev μ-loop : tie.MeasureT-loop
-μ-loop s out x table p₀ p = x .shape .n - p
+returns : tie.Need-returns
+returns c =
+    let s = c .before .before .before .before .before .before .before in
+    let a = s .args in
+    agreed-none (a .x) (a .s .now) (a .out .now) (s .pre .0) (s .pre .1) (omega arith) _ (c .all-even .ensures)
 
-table-requires : tie.Need-table-requires Inv-loop μ-loop
-table-requires c κs = c .before .before .pre .good
+apart-requires : tie.Need-apart-requires
+apart-requires c κs = c .before .before .before .before .before .before .pre .0 .good
 
-loop-holds : tie.Need-loop-holds Inv-loop μ-loop
-loop-holds c = (omega arith, λ q h. absurd (omega arith))
+between-requires : tie.Need-between-requires
+between-requires c κs =
+    let s = c .before .before .before .before .before .before .before in
+    let x = s .args .x in (
+      s .pre .0,
+      omega arith,
+      omega (arith, ends x (s .pre .0 .good) (s .pre .1) (omega arith) _ (c .apart .ensures) .0),
+      between-free x (s .pre .0 .good) (s .pre .1) (omega arith) _ (c .apart .ensures),
+    )
 
-passes-requires : tie.Need-passes-requires Inv-loop μ-loop
-passes-requires c κs = (c .before .before .before .before .before .before .before .pre, omega arith, c .before .before .before .before .table .ensures)
+returns-2 : tie.Need-returns-2
+returns-2 c =
+    let s = c .before .before .before .before .before .before .before .before .before in
+    let a = s .args in
+    tells-false (agreed-not (a .x) (s .pre .0 .good) (s .pre .1) (omega arith) _ (c .before .before .apart .ensures) (a .s .now) (a .out .now) (s .pre .0)
+    (told-no (c .before .between .ensures) (not-true _ (c .if2 .taken))))
 
-returns : tie.Need-returns Inv-loop μ-loop
-returns c = tells-false (λ all. told-no (c .before .passes .ensures) (not-true _ (c .if2 .taken)) (all (c .before .before .before .before .before .loop .p) (c .before .before .before .if1 .taken)))
+beyond-requires : tie.Need-beyond-requires
+beyond-requires c κs =
+    let s = c .before .before .before .before .before .before .before .before .before in
+    let good = s .pre .0 .good in
+    (good .m-fits .1, omega (arith, good .n-fits .1, ends (s .args .x) good (s .pre .1) (omega arith) _ (c .before .before .apart .ensures) .0))
 
-add-p : tie.Need-add-p Inv-loop μ-loop
-add-p c = omega (arith, c .before .before .before .before .before .before .before .before .before .pre .good .n-fits .1)
+above-requires : tie.Need-above-requires
+above-requires c κs =
+    let s = c .before .before .before .before .before .before .before .before .before .before in
+    let good = s .pre .0 .good in
+    (omega arith, omega (arith, c .beyond .ensures, good .m-fits .0, ends (s .args .x) good (s .pre .1) (omega arith) _ (c .before .before .before .apart .ensures) .1), good .n-fits .1)
 
-loop-less : tie.Need-loop-less Inv-loop μ-loop
-loop-less c = omega arith
+add-all-even : tie.Need-add-all-even
+add-all-even c = search needs
 
-loop-again : tie.Need-loop-again Inv-loop μ-loop
-loop-again c =
-    let a = c .before .before .before .before .before .before .before .before .before .args in
-    let at = c .before .before .before .before .before .loop in
-    (omega arith, passed-next (a .x) (a .s .now) (a .out .now) (at .p) (at .inv .1) (c .before .passes .ensures .yes (not-false _ (c .if2 .left))))
+sub-all-even : tie.Need-sub-all-even
+sub-all-even c = search needs
 
-returns-2 : tie.Need-returns-2 Inv-loop μ-loop
-returns-2 c = tells-true (λ q h. c .before .before .loop .inv .1 q (omega arith))
+sub-all-even-2 : tie.Need-sub-all-even-2
+sub-all-even-2 c =
+    let s = c .before .before .before .before .before .before .before .before .before .before .before .before .before in
+    omega (arith, c .before .before .before .beyond .ensures, ends (s .args .x) (s .pre .0 .good) (s .pre .1) (omega arith) _ (c .before .before .before .before .before .before .apart .ensures) .1)
+
+all-even-requires-2 : tie.Need-all-even-requires-2
+all-even-requires-2 c κs =
+    let s = c .before .before .before .before .before .before .before .before .before .before .before .before .before in
+    (s .pre .0 .good, s .pre .0 .whole, c .before .before .above .ensures .below, omega (arith, s .pre .0 .good .m-fits .0))
+
+returns-3 : tie.Need-returns-3
+returns-3 c =
+    let s = c .before .before .before .before .before .before .before .before .before .before .before .before .before .before in
+    let a = s .args in
+    agreed-tells (a .x) (s .pre .0 .good) (s .pre .1) (omega arith) _ (c .before .before .before .before .before .before .before .apart .ensures) (a .s .now) (a .out .now) (s .pre .0) _ _
+    (c .before .before .before .before .beyond .ensures) (c .before .before .before .above .ensures .is) _
+    (c .before .before .before .before .before .before .between .ensures .yes (not-false _ (c .before .before .before .before .before .if2 .left))) (c .all-even2 .ensures)
 
 pub agree-spec : {M : Type 1} → statement M
 agree-spec =
     tie.close
     (tie.spec
-    Inv-loop
-    μ-loop
-    table-requires
-    loop-holds
-    passes-requires
+    all-even-requires
     returns
-    add-p
-    loop-less
-    loop-again
-    returns-2)
+    apart-requires
+    between-requires
+    returns-2
+    beyond-requires
+    above-requires
+    add-all-even
+    sub-all-even
+    sub-all-even-2
+    all-even-requires-2
+    returns-3)

@@ -2,7 +2,6 @@
 use mathlib.Core.Path.{sym, _∙_}
 use mathlib.Core.Logic.{inl, inr}
 use native.Mathlib.Omega.{arith}
-use borrow.Author.Needs.{needs}
 use Rattle.rule.proofs.OrderLaws.{walk-left}
 use Rattle.agreeing.proofs.ChangedLaws.{distance-of, distance-none}
 use Rattle.agreeing.proofs.apart.Statement.{statement}

@@ -1,5 +1,5 @@
 -- `difference`: the top pair and the parity symbol first, then the heights below them.
-use mathlib.Core.Path.{_≡_, refl, ap, _∙_}
+use mathlib.Core.Path.{refl, ap, _∙_}
 use Prim.Native.Nat.{ℕ, _+_, _-_}
 use borrow.Author.Needs.{needs}
 use lib.ListN.{getD}

@@ -1,5 +1,5 @@
 -- `others`: the top pair first, then the heights below it.
-use mathlib.Core.Path.{_≡_, refl, _∙_}
+use mathlib.Core.Path.{refl, _∙_}
 use Prim.Native.Nat.{_+_, _-_}
 use borrow.Author.Needs.{needs}
 use Rattle.shape.specs.Place.{byte}

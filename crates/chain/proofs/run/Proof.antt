@@ -1,13 +1,13 @@
 -- `run` adds the heights start to end - 1. The invariant: the heights below d are added. The measure is what is left of the heights.
 use mathlib.Core.Path.{_≡_, ap, _∙_}
-use Prim.Native.Nat.{ℕ, _+_, _-_, _<_, _≤_}
+use Prim.Native.Nat.{ℕ, _+_, _-_, _≤_}
 use native.Mathlib.Omega.{arith}
 use lib.ListN.{length, getD}
 use Rattle.xor.specs.Xor.{_⊕_}
-use Rattle.xor.specs.Block.{longest}
+use Rattle.block.specs.Block.{longest}
 use Rattle.shape.specs.Place.{byte}
-use Rattle.shape.specs.Walk.{Ways}
-use Rattle.shape.proofs.WalkLaws.{Step, step-of}
+use Rattle.walking.specs.Walk.{Ways}
+use Rattle.walking.proofs.WalkLaws.{Step, step-of}
 use Rattle.chain.specs.Chain.{two, Ran}
 use Rattle.chain.proofs.Sums.{sums-more, two-at}
 use Rattle.chain.proofs.run.Statement.{statement}

@@ -1,7 +1,7 @@
 -- `chains`: a number that is not below n is outside of 0 to n-1.
 use mathlib.Core.Logic.{inr}
 use native.Mathlib.Omega.{arith}
-use Rattle.chains.proofs.WordsLaws.{refused}
+use Rattle.words.proofs.WordsLaws.{refused}
 use borrow.Author.Needs.{needs}
 use Rattle.chains.proofs.chains.Statement.{statement}
 use Rattle.chains.proofs.chains.Tie as tie

@@ -5,12 +5,13 @@ use Prim.Native.Nat.{_≤_}
 use native.Mathlib.Omega.{arith}
 use native.Mathlib.Decide.{decLe}
 use Rattle.shape.specs.declared.Shape.{Shape}
-use Rattle.shape.specs.declared.Answer.{Answer}
-use Rattle.shape.specs.declared.Answer.the-variants.{BadRows, BadColumns}
+use Rattle.answer.specs.declared.Answer.{Answer}
+use Rattle.answer.specs.declared.Answer.the-variants.{BadRows, BadColumns}
 use Rattle.shape.specs.Good.{Outside, rows, columns}
-use Rattle.shape.specs.Answers.{number, First, shape-table}
+use Rattle.answer.specs.Answers.{number, First}
+use Rattle.shape.specs.Refusals.{shape-table}
 use Rattle.shape.proofs.Asked.{done-good}
-use Rattle.chains.proofs.WordsLaws.{refused}
+use Rattle.words.proofs.WordsLaws.{refused}
 use borrow.Author.Needs.{needs}
 use Rattle.chains.proofs.draw.Statement.{statement}
 use Rattle.chains.proofs.draw.Tie as tie

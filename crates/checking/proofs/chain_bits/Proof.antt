@@ -13,8 +13,8 @@ Inv-loop sh s p wk bits₀ from₀ left₀ now from left = (from + left ≡ sh .
 abbrev μ-loop : tie.MeasureT-loop
 μ-loop sh s p wk bits₀ from₀ left₀ now from left = left
 
-walk-requires : tie.Need-walk-requires Inv-loop μ-loop
-walk-requires c κs = let s = c .before in (s .pre .0, s .pre .2)
+along-requires : tie.Need-along-requires Inv-loop μ-loop
+along-requires c κs = let s = c .before in (s .pre .0, s .pre .2)
 
 loop-holds : tie.Need-loop-holds Inv-loop μ-loop
 loop-holds c = (omega arith, total-none _, omega arith)
@@ -23,7 +23,7 @@ tally-some-requires : tie.Need-tally-some-requires Inv-loop μ-loop
 tally-some-requires c κs =
     let wk = c .before .before .before in
     let s = wk .before .before in
-    (s .pre .0, s .pre .1, wk .walk .ensures .0, c .before .before .loop .inv .0, omega arith, c .before .before .loop .inv .2)
+    (s .pre .0, s .pre .1, wk .along .ensures .0, c .before .before .loop .inv .0, omega arith, c .before .before .loop .inv .2)
 
 add-from : tie.Need-add-from Inv-loop μ-loop
 add-from c = omega (arith, c .before .before .before .before .before .before .pre .0 .w-fits .1)
@@ -39,7 +39,7 @@ loop-again c =
     let at = c .before .before .before in
     let wk = at .before in
     let step = c .tally-some .ensures in
-    (omega arith, bits-then _ _ (wk .walk .ensures .1) (omega arith) (at .loop .inv .1) (step .2), omega (arith, step .2 .most))
+    (omega arith, bits-then _ _ (wk .along .ensures .1) (omega arith) (at .loop .inv .1) (step .2), omega (arith, step .2 .most))
 
 returns : tie.Need-returns Inv-loop μ-loop
 returns c =
@@ -52,7 +52,7 @@ chain-bits-spec =
     (tie.spec
     Inv-loop
     μ-loop
-    walk-requires
+    along-requires
     loop-holds
     tally-some-requires
     add-from

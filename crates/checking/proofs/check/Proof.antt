@@ -1,7 +1,7 @@
 -- `check`: what is not refused is good and as long as its shape says, so it is counted; any other answer is not 0, and goes with zeros.
 use mathlib.Core.Path.{refl}
 use borrow.Author.Needs.{needs}
-use Rattle.shape.proofs.Asked.{not-done}
+use Rattle.answer.proofs.AnswersLaws.{not-done}
 use Rattle.shape.proofs.Asked.{done-stripe}
 use Rattle.checking.proofs.check.Statement.{statement}
 use Rattle.checking.proofs.check.Tie as tie

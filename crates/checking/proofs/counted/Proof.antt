@@ -7,7 +7,7 @@ use borrow.Author.Needs.{needs}
 use lib.ListN.{getD}
 use Rattle.xor.specs.Total.{total}
 use Rattle.xor.proofs.TotalLaws.{total-none, total-more}
-use Rattle.shape.specs.Answers.{number}
+use Rattle.answer.specs.Answers.{number}
 use Rattle.shape.proofs.GoodLaws.{stripe-done}
 use Rattle.checking.specs.Check.{count, breaks, chain-bits, broken-chains, differing-bits}
 use Rattle.checking.specs.Bits.{Chain}

@@ -1,12 +1,12 @@
 -- `tally`: a block that is zero adds no bit; of any other the bits are counted.
-use mathlib.Core.Path.{_≡_, refl, sym, ap, _∙_}
+use mathlib.Core.Path.{refl, sym, ap, _∙_}
 use Prim.Native.Nat.{_+_}
 use native.Mathlib.Omega.{arith}
 use borrow.Author.Needs.{needs}
 use lib.Count.{ones}
 use borrow.Author.Tests.{not-false}
 use Rattle.xor.proofs.TotalLaws.{total-zero, total-same}
-use Rattle.xor.proofs.OnesLaws.{ones-zero}
+use Rattle.looking.proofs.OnesLaws.{ones-zero}
 use Rattle.rule.specs.Rule.{differs}
 use Rattle.checking.proofs.Counting.{counts-of}
 use Rattle.checking.proofs.tally.Statement.{statement}

@@ -1,10 +1,8 @@
 -- `encode`: refused, the stripe is as it was; done, every parity symbol is set.
-use mathlib.Core.Path.{_≡_, refl}
+use mathlib.Core.Path.{refl}
 use borrow.Author.Needs.{needs}
-use lib.ListN.{length}
-use Rattle.shape.specs.Good.{Good, size}
-use Rattle.shape.specs.Answers.{number}
-use Rattle.shape.proofs.Asked.{not-done}
+use Rattle.answer.specs.Answers.{number}
+use Rattle.answer.proofs.AnswersLaws.{not-done}
 use Rattle.shape.proofs.Asked.{done-stripe}
 use Rattle.encoding.proofs.encode.Statement.{statement}
 use Rattle.encoding.proofs.encode.Tie as tie

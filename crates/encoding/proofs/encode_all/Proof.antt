@@ -1,6 +1,6 @@
 -- `encode_all`. The invariant: the columns below p are set. The measure: the columns to go.
 use mathlib.Core.Path.{_≡_, _∙_}
-use Prim.Native.Nat.{_-_, _≤_, _<_}
+use Prim.Native.Nat.{_-_, _≤_}
 use native.Mathlib.Omega.{arith}
 use Rattle.encoding.specs.Settled.{Settled, Below}
 use Rattle.encoding.proofs.SettledLaws.{settled-none, column-then, settled-all}

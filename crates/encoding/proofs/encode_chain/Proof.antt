@@ -1,5 +1,4 @@
 -- `encode_chain`: the whole blocks, then the tail after them.
-use mathlib.Core.Path.{_≡_}
 use native.Mathlib.Omega.{arith}
 use borrow.Author.Needs.{needs}
 use Rattle.encoding.proofs.SettledLaws.{stretch-then}
@@ -9,8 +8,8 @@ use Rattle.encoding.proofs.encode_chain.Tie as tie
 sub-whole : tie.Need-sub-whole
 sub-whole c = search needs
 
-walk-requires : tie.Need-walk-requires
-walk-requires c κs = search needs
+along-requires : tie.Need-along-requires
+along-requires c κs = search needs
 
 encode-blocks-requires : tie.Need-encode-blocks-requires
 encode-blocks-requires c κs = search needs
@@ -26,14 +25,14 @@ returns c =
     let tail = c .before .before in
     let blocks = tail .before .before .before .before in
     let walk = blocks .before .before in
-    rw (walk .walk .ensures .1) at (stretch-then _ (walk .before .before .before .before .pre .0) _ _ _ _ 0 _ _ (omega arith) (omega arith) (blocks .encode-blocks .ensures) (tail .encode-tail .ensures))
+    rw (walk .along .ensures .1) at (stretch-then _ (walk .before .before .before .before .pre .0) _ _ _ _ 0 _ _ (omega arith) (omega arith) (blocks .encode-blocks .ensures) (tail .encode-tail .ensures))
 
 pub encode-chain-spec : {M : Type 1} → statement M
 encode-chain-spec =
     tie.close
     (tie.spec
     sub-whole
-    walk-requires
+    along-requires
     encode-blocks-requires
     encode-tail-requires
     same-length

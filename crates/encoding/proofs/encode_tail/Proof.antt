@@ -1,6 +1,6 @@
 -- `encode_tail`. The invariant: the bytes from `start` to below `from` are set. The measure: the bytes to go.
 use mathlib.Core.Path.{_≡_, _∙_}
-use Prim.Native.Nat.{_+_, _-_, _≤_}
+use Prim.Native.Nat.{_-_, _≤_}
 use native.Mathlib.Omega.{arith}
 use Rattle.encoding.specs.Settled.{Settled, Stretch}
 use Rattle.encoding.proofs.SettledLaws.{settled-none, stretch-then}

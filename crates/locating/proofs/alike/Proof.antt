@@ -1,10 +1,9 @@
 -- `alike`. The invariant: `same` says whether the bytes below `from` differ alike. The measure: the bytes to go.
-use mathlib.Core.Path.{_≡_, refl}
-use Prim.Native.Nat.{ℕ, _-_, _≤_}
+use Prim.Native.Nat.{_-_, _≤_}
 use native.Mathlib.Omega.{arith}
-use Rattle.xor.specs.Asked.{Tells}
+use Rattle.xor.specs.Tells.{Tells}
 use Rattle.locating.specs.Locating.{Level}
-use Rattle.xor.proofs.AskedLaws.{tells-true}
+use Rattle.xor.proofs.TellsLaws.{tells-true}
 use Rattle.locating.proofs.LocatingLaws.{level-then, tells-both}
 use Rattle.locating.proofs.alike.Statement.{statement}
 use Rattle.locating.proofs.alike.Tie as tie
@@ -15,11 +14,11 @@ Inv-loop shape s p q w wk other same₀ from₀ same from = (from ≤ w) × Tell
 abbrev μ-loop : tie.MeasureT-loop
 μ-loop shape s p q w wk other same₀ from₀ same from = w - from
 
-walk-requires : tie.Need-walk-requires Inv-loop μ-loop
-walk-requires c κs = let s = c .before in (s .pre .0 .good, s .pre .1)
+along-requires : tie.Need-along-requires Inv-loop μ-loop
+along-requires c κs = let s = c .before in (s .pre .0 .good, s .pre .1)
 
-walk-requires-2 : tie.Need-walk-requires-2 Inv-loop μ-loop
-walk-requires-2 c κs = let s = c .before .before in (s .pre .0 .good, s .pre .2)
+along-requires-2 : tie.Need-along-requires-2 Inv-loop μ-loop
+along-requires-2 c κs = let s = c .before .before in (s .pre .0 .good, s .pre .2)
 
 loop-holds : tie.Need-loop-holds Inv-loop μ-loop
 loop-holds c = (omega arith, tells-true (λ t lo hi. absurd (omega arith)))
@@ -27,7 +26,7 @@ loop-holds c = (omega arith, tells-true (λ t lo hi. absurd (omega arith)))
 level-some-requires : tie.Need-level-some-requires Inv-loop μ-loop
 level-some-requires c κs =
     let wk = c .before .before .before in
-    (wk .before .before .before .pre .0, wk .before .walk .ensures .0, wk .walk2 .ensures .0, omega arith)
+    (wk .before .before .before .pre .0, wk .before .along .ensures .0, wk .along2 .ensures .0, omega arith)
 
 add-from : tie.Need-add-from Inv-loop μ-loop
 add-from c = let s = c .before .before .before .before .before .before .before in omega (arith, s .pre .0 .good .w-fits .1)
@@ -47,7 +46,7 @@ returns c =
     let one = two .before in
     let sh = one .before .before .args .shape in
     let told = at .inv .1 in
-    tells-both sh _ (one .walk .ensures .1) (two .walk2 .ensures .1) (record {
+    tells-both sh _ (one .along .ensures .1) (two .along2 .ensures .1) (record {
       yes = λ e t l. told .yes e t (omega arith) (omega arith);
       no = λ all. told .no (λ t lo hi. all t (omega arith));
     })
@@ -58,8 +57,8 @@ alike-spec =
     (tie.spec
     Inv-loop
     μ-loop
-    walk-requires
-    walk-requires-2
+    along-requires
+    along-requires-2
     loop-holds
     level-some-requires
     add-from

@@ -3,7 +3,7 @@ use Prim.Native.Nat.{_+_, _-_}
 use native.Mathlib.Omega.{arith}
 use borrow.Author.Needs.{needs}
 use Rattle.shape.proofs.StepLaws.{turn}
-use Rattle.xor.proofs.AskedLaws.{tells-true, tells-false}
+use Rattle.xor.proofs.TellsLaws.{tells-true, tells-false}
 use Rattle.locating.proofs.LocatingLaws.{apart-below, apart-above, apart-far}
 use Rattle.locating.proofs.apart.Statement.{statement}
 use Rattle.locating.proofs.apart.Tie as tie

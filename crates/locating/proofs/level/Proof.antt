@@ -1,11 +1,11 @@
 -- `level`: what the two chains differ by, XORed, is zero just where they differ alike.
-use mathlib.Core.Path.{_≡_, refl, sym, ap₂, _∙_}
+use mathlib.Core.Path.{refl, sym, ap₂, _∙_}
 use borrow.Author.Needs.{needs}
 use borrow.Author.Tests.{not-false, not-true}
 use Rattle.xor.specs.Xor.{_⊕_}
-use Rattle.xor.specs.Asked.{Tells}
+use Rattle.xor.specs.Tells.{Tells}
 use Rattle.xor.proofs.XorLaws.{⊕-eq, ⊕-same}
-use Rattle.xor.proofs.AskedLaws.{told-no}
+use Rattle.xor.proofs.TellsLaws.{told-no}
 use Rattle.locating.proofs.LocatingLaws.{Pieces, compares-yes, compares-no}
 use Rattle.locating.proofs.level.Statement.{statement}
 use Rattle.locating.proofs.level.Tie as tie

@@ -3,12 +3,12 @@
 use mathlib.Core.Path.{refl}
 use native.Mathlib.Omega.{arith}
 use borrow.Author.Needs.{needs}
-use Rattle.shape.specs.Answers.{number}
-use Rattle.shape.proofs.Asked.{not-done}
+use Rattle.answer.specs.Answers.{number}
+use Rattle.answer.proofs.AnswersLaws.{not-done}
 use Rattle.locating.specs.Locate.{found}
 use Rattle.locating.specs.Locating.{Sized}
 use Rattle.shape.proofs.Asked.{done-stripe}
-use Rattle.xor.proofs.AskedLaws.{told-no}
+use Rattle.xor.proofs.TellsLaws.{told-no}
 use Rattle.locating.proofs.LocatingLaws.{names-sound, names-searched}
 use Rattle.locating.proofs.locate.Statement.{statement}
 use Rattle.locating.proofs.locate.Tie as tie

@@ -1,6 +1,6 @@
 -- `paired`: by their bits where one of the two chains holds, and by their bytes where none does.
 use borrow.Author.Needs.{needs}
-use Rattle.xor.proofs.AskedLaws.{tells-true, tells-false}
+use Rattle.xor.proofs.TellsLaws.{tells-true, tells-false}
 use Rattle.locating.proofs.LocatingLaws.{bits-apart, bits-alike, tells-both}
 use Rattle.locating.proofs.paired.Statement.{statement}
 use Rattle.locating.proofs.paired.Tie as tie

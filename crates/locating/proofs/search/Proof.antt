@@ -9,7 +9,7 @@ use borrow.Author.Tests.{not-true, not-false}
 use Rattle.shape.specs.Step.{left, right}
 use Rattle.locating.specs.Locate.{Explains, found}
 use Rattle.locating.specs.Locating.{Alike}
-use Rattle.xor.proofs.AskedLaws.{told-no}
+use Rattle.xor.proofs.TellsLaws.{told-no}
 use Rattle.locating.proofs.LocatingLaws.{explains-within, within-explains}
 use Rattle.locating.proofs.search.Statement.{statement}
 use Rattle.locating.proofs.search.Tie as tie

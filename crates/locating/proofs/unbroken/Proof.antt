@@ -4,7 +4,7 @@ use Prim.Native.Nat.{ℕ, _-_, _≤_, _<_}
 use native.Mathlib.Omega.{arith}
 use lib.ListN.{getD}
 use borrow.Author.Count.{below-more}
-use Rattle.xor.proofs.AskedLaws.{tells-true, tells-false}
+use Rattle.xor.proofs.TellsLaws.{tells-true, tells-false}
 use Rattle.locating.proofs.unbroken.Statement.{statement}
 use Rattle.locating.proofs.unbroken.Tie as tie
 

@@ -6,7 +6,7 @@ use native.Mathlib.Omega.{arith}
 use lib.ListN.{getD}
 use borrow.Author.Count.{below-more}
 use Rattle.locating.specs.Locating.{Apart}
-use Rattle.xor.proofs.AskedLaws.{tells-true, tells-false, told-no}
+use Rattle.xor.proofs.TellsLaws.{tells-true, tells-false, told-no}
 use Rattle.locating.proofs.within.Statement.{statement}
 use Rattle.locating.proofs.within.Tie as tie
 

@@ -2,7 +2,7 @@
 use mathlib.Core.Logic.{inl, inr, ⊎-elim}
 use native.Mathlib.Omega.{arith}
 use borrow.Author.Tests.{leb-true, le-leb}
-use Rattle.xor.proofs.AskedLaws.{tells-false}
+use Rattle.xor.proofs.TellsLaws.{tells-false}
 use borrow.Author.Needs.{needs}
 use Rattle.rule.proofs.beyond.Statement.{statement}
 use Rattle.rule.proofs.beyond.Tie as tie

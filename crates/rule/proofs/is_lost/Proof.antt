@@ -1,7 +1,7 @@
 -- `is_lost`.
 use mathlib.Core.Logic.{inl, inr, ⊎-elim}
 use borrow.Author.Tests.{eq-eqb, eqb-true}
-use Rattle.xor.proofs.AskedLaws.{tells-false}
+use Rattle.xor.proofs.TellsLaws.{tells-false}
 use borrow.Author.Needs.{needs}
 use Rattle.rule.proofs.is_lost.Statement.{statement}
 use Rattle.rule.proofs.is_lost.Tie as tie

@@ -2,8 +2,7 @@
 use mathlib.Core.Path.{_≡_, refl}
 use Prim.Native.Nat.{ℕ, zero, suc, _≤_}
 use native.Mathlib.Omega.{arith}
-use Rattle.rule.specs.declared.Losses.{Losses}
-use Rattle.rule.specs.declared.Losses.the-variants.{None, One, Two}
+use Rattle.rule.specs.declared.Losses.the-variants.{Two}
 use Rattle.rule.specs.Losses.{named}
 use Rattle.rule.proofs.named.Statement.{statement}
 use Rattle.rule.proofs.named.Tie as tie

@@ -1,6 +1,6 @@
 -- `twice`.
 use borrow.Author.Tests.{eq-eqb, eqb-true}
-use Rattle.xor.proofs.AskedLaws.{tells-false}
+use Rattle.xor.proofs.TellsLaws.{tells-false}
 use borrow.Author.Needs.{needs}
 use Rattle.rule.proofs.twice.Statement.{statement}
 use Rattle.rule.proofs.twice.Tie as tie

@@ -1,12 +1,12 @@
 -- `zeros`: the first i bytes are 0; the measure is the bytes to go.
 use mathlib.Core.Path.{_≡_}
-use Prim.Native.Nat.{ℕ, _-_, _≤_}
+use Prim.Native.Nat.{_-_, _≤_}
 use native.Mathlib.Omega.{arith}
 use lib.ListN.{length, getD}
 use borrow.Author.Needs.{needs}
 use borrow.Author.Count.{below-more}
-use Rattle.xor.specs.Asked.{Zero}
-use Rattle.xor.proofs.AskedLaws.{tells-true, tells-false}
+use Rattle.looking.specs.Looking.{Zero}
+use Rattle.xor.proofs.TellsLaws.{tells-true, tells-false}
 use Rattle.trial.proofs.zeros.Statement.{statement}
 use Rattle.trial.proofs.zeros.Tie as tie
 

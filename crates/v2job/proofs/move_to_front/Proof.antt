@@ -1,12 +1,12 @@
 -- `move_to_front`: after t turns the first t bytes are those from `start` on, and the rest is as it was; the measure is what is left to move.
-use mathlib.Core.Path.{_≡_, refl, sym, ap, _∙_}
+use mathlib.Core.Path.{_≡_, refl, sym, _∙_}
 use mathlib.Core.List.{List}
 use Prim.Native.Nat.{ℕ, _+_, _-_, _≤_}
 use native.Mathlib.Omega.{arith}
 use borrow.Author.Needs.{needs}
 use lib.ListN.{length, getD, take, drop, length-drop}
 use lib.Seq.{length-take-le, getD-take, getD-drop, ext-getD}
-use Rattle.xor.proofs.Upto.{Upto, upto-none, upto-more}
+use Rattle.block.proofs.Upto.{Upto, upto-none, upto-more}
 use Rattle.v2job.proofs.move_to_front.Statement.{statement}
 use Rattle.v2job.proofs.move_to_front.Tie as tie
 

@@ -1,5 +1,5 @@
 -- `refill`: nothing is read where the input has ended or the longest record waits; otherwise what waits goes to the front, and what is read comes after it.
-use mathlib.Core.Path.{_≡_, refl, sym, _∙_}
+use mathlib.Core.Path.{sym, _∙_}
 use mathlib.Core.Bool.{true≢false}
 use Prim.Native.Nat.{_-_}
 use native.Mathlib.Omega.{arith}

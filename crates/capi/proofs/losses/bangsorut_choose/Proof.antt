@@ -2,7 +2,7 @@
 use mathlib.Core.Path.{sym}
 use native.Mathlib.Omega.{arith}
 use borrow.Author.Needs.{needs}
-use Rattle.xor.proofs.AskedLaws.{told-no}
+use Rattle.xor.proofs.TellsLaws.{told-no}
 use Rattle.capi.proofs.LiesLaws.{fits, choose-whole, none-lies, gone-lies, survives-lies}
 use Rattle.capi.proofs.losses.bangsorut_choose.Statement.{statement}
 use Rattle.capi.proofs.losses.bangsorut_choose.Tie as tie

@@ -3,9 +3,9 @@ use mathlib.Core.Path.{refl}
 use native.Mathlib.Omega.{arith}
 use borrow.Author.Needs.{needs}
 use lib.ListN.{length}
-use Rattle.xor.proofs.AskedLaws.{told-no}
-use Rattle.shape.specs.Answers.{First}
-use Rattle.shape.proofs.Asked.{not-done}
+use Rattle.xor.proofs.TellsLaws.{told-no}
+use Rattle.answer.specs.Answers.{First}
+use Rattle.answer.proofs.AnswersLaws.{not-done}
 use Rattle.filling.specs.Fill.{fill-table}
 use Rattle.filling.proofs.FillLaws.{fill-done, fill-passed}
 use Rattle.filling.proofs.HandedBackLaws.{front-part, back-none, back-gone, back-survives}

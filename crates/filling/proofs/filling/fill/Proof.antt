@@ -3,13 +3,13 @@ use mathlib.Core.Path.{refl}
 use native.Mathlib.Omega.{arith}
 use borrow.Author.Needs.{needs}
 use lib.ListN.{length}
-use Rattle.shape.specs.Answers.{number, First}
-use Rattle.shape.proofs.Asked.{not-done}
+use Rattle.answer.specs.Answers.{number, First}
+use Rattle.answer.proofs.AnswersLaws.{not-done}
 use Rattle.staging.specs.Reading.{Read}
 use Rattle.filling.specs.Fill.{fill-table}
 use Rattle.filling.proofs.FillLaws.{Fill-good, fill-done, fill-passed}
 use Rattle.staging.proofs.ReadingLaws.{read-here}
-use Rattle.filling.proofs.FillingLaws.{read-good, read-fills, read-small, read-fillable, read-filled, read-survives}
+use Rattle.filling.proofs.ReadFilled.{read-good, read-fills, read-small, read-fillable, read-filled, read-survives}
 use Rattle.filling.proofs.filling.fill.Statement.{statement}
 use Rattle.filling.proofs.filling.fill.Tie as tie
 

@@ -4,10 +4,11 @@ use mathlib.Core.Logic.{_⊎_, inl, inr, ⊎-elim}
 use Prim.Native.Nat.{_≤_}
 use native.Mathlib.Omega.{arith}
 use lib.ListN.{length}
-use Rattle.xor.proofs.AskedLaws.{told-no}
+use Rattle.xor.proofs.TellsLaws.{told-no}
 use Rattle.shape.specs.Good.{Good, size}
-use Rattle.shape.specs.Answers.{number}
-use Rattle.shape.proofs.Asked.{not-done, done-stripe, stripe-stop}
+use Rattle.answer.specs.Answers.{number}
+use Rattle.answer.proofs.AnswersLaws.{not-done}
+use Rattle.shape.proofs.Asked.{done-stripe, stripe-stop}
 use Rattle.shape.proofs.GoodLaws.{stripe-pass}
 use Rattle.rule.specs.Losses.{Beyond}
 use Rattle.filling.specs.Fill.{fill-table}

@@ -1,7 +1,8 @@
 -- `decide`: each arm of the match.
 use mathlib.Core.Path.{refl}
-use Rattle.job.specs.Kinds.{shaping, writing, storing, checking, locating, rebuilding, kind-number}
-use Rattle.job.proofs.DecidingLaws.{unknown, decides-kind, decides-unknown, decides-client}
+use Rattle.kinds.specs.Kinds.{shaping, writing, storing, checking, locating, rebuilding, kind-number}
+use Rattle.kinds.proofs.KindsLaws.{unknown}
+use Rattle.job.proofs.DecidingLaws.{decides-kind, decides-unknown, decides-client}
 use borrow.Author.Needs.{needs}
 use Rattle.job.proofs.deciding.decide.Statement.{statement}
 use Rattle.job.proofs.deciding.decide.Tie as tie
@@ -76,6 +77,7 @@ unfolding kind-number
 returns-6 c = let told = c .before .before .before .before .mend .ensures in (told .0, λ clear zero. decides-kind _ _ _ _ _ _ clear rebuilding _ (c .before .before .before .before .before .before .before .match .keys6) (told .1 clear zero))
 
 returns-7 : tie.Need-returns-7
+unfolding kind-number
 returns-7 c =
     let no = c .before .before .match .rest in
     (refl, λ clear zero. decides-unknown _ _ _ _ _ _ clear (c .before .if1 .taken) (unknown _ (no .0 .0 .0 .0 .0 .1) (no .0 .0 .0 .0 .1) (no .0 .0 .0 .1) (no .0 .0 .1) (no .0 .1) (no .1)) (c .told .ensures))

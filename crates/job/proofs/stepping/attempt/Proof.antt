@@ -2,8 +2,8 @@
 use mathlib.Core.Path.{refl, ap}
 use Prim.Native.Nat.{ℕ, _+_}
 use native.Mathlib.Omega.{arith}
-use Rattle.xor.proofs.AskedLaws.{told-no}
-use Rattle.job.specs.Record.{counted, kind-of}
+use Rattle.xor.proofs.TellsLaws.{told-no}
+use Rattle.records.specs.Record.{counted, kind-of}
 use Rattle.job.proofs.SteppingLaws.{framed, payload-is, step-ended, step-stopped, step-framed}
 use borrow.Author.Needs.{needs}
 use Rattle.job.proofs.stepping.attempt.Statement.{statement}

@@ -1,11 +1,9 @@
 -- `attempt`: the refusals first; past them the call is otherwise good, and the survivors decide.
-use mathlib.Core.Path.{_≡_, refl, subst, ap}
-use Prim.Native.Nat.{ℕ}
+use mathlib.Core.Path.{refl, subst}
 use lib.ListN.{length}
 use borrow.Author.Needs.{needs}
-use Rattle.shape.specs.Answers.{number, First}
-use Rattle.shape.proofs.AnswersLaws.{number-done}
-use Rattle.shape.proofs.Asked.{not-done}
+use Rattle.answer.specs.Answers.{First}
+use Rattle.answer.proofs.AnswersLaws.{number-done, not-done}
 use Rattle.rebuild.specs.Rebuild.{early-table, Otherwise-good}
 use Rattle.rebuild.proofs.RebuildLaws.{early-good, early-outcome, late-outcome}
 use Rattle.rebuild.proofs.rebuilding.attempt.Statement.{statement}

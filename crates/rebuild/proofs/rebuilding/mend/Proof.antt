@@ -3,10 +3,10 @@ use mathlib.Core.Path.{refl, sym}
 use native.Mathlib.Omega.{arith}
 use borrow.Author.Needs.{needs}
 use borrow.Author.Tests.{not-true, not-false}
-use Rattle.shape.specs.Answers.{number}
-use Rattle.xor.proofs.AskedLaws.{told-no}
-use Rattle.rebuild.specs.Committing.{stores-in-all}
-use Rattle.rebuild.proofs.MendingLaws.{mend-good, mend-led, mend-stageable, mend-patchable, mend-disagree, mend-done}
+use Rattle.answer.specs.Answers.{number}
+use Rattle.xor.proofs.TellsLaws.{told-no}
+use Rattle.committing.specs.Committing.{stores-in-all}
+use Rattle.rebuild.proofs.MendingLaws.{mend-good, mend-led, mend-stageable, mend-patchable, mend-in-order, mend-disagree, mend-done}
 use Rattle.rebuild.proofs.rebuilding.mend.Statement.{statement}
 use Rattle.rebuild.proofs.rebuilding.mend.Tie as tie
 
@@ -22,8 +22,10 @@ stage-requires c κs =
 agree-requires : tie.Need-agree-requires
 agree-requires c κs =
     let s = c .before .before .before .before .before .before .before .before .before .before in
-    let x = c .before .before .before .before .before .before .before .read in
-    mend-patchable (s .args .shape) (s .args .lost) (s .args .stripe .now) _ (s .pre) (x .result) (x .ensures) _ (c .before .before .before .before .stage .ensures .0)
+    let x = c .before .before .before .before .before .before .before .read in (
+      mend-patchable (s .args .shape) (s .args .lost) (s .args .stripe .now) _ (s .pre) (x .result) (x .ensures) _ (c .before .before .before .before .stage .ensures .0),
+      mend-in-order (s .args .shape) (s .args .lost) (s .args .stripe .now) _ (s .pre) (x .result) (x .ensures),
+    )
 
 same-length : tie.Need-same-length
 same-length c = search needs

@@ -3,7 +3,7 @@ use mathlib.Core.Logic.{inl, inr}
 use borrow.Author.Needs.{needs}
 use native.Mathlib.Omega.{arith}
 use Rattle.shape.specs.Good.{size}
-use Rattle.shape.specs.Answers.{number}
+use Rattle.answer.specs.Answers.{number}
 use Rattle.shape.proofs.GoodLaws.{shape-done, shape-1, shape-2, shape-3}
 use Rattle.shape.proofs.Fits.{rows-columns, all-three}
 use Rattle.shape.proofs.Shape.refusal.Statement.{statement}

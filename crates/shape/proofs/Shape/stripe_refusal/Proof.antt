@@ -2,8 +2,9 @@
 use borrow.Author.Needs.{needs}
 use native.Mathlib.Omega.{arith}
 use Rattle.shape.specs.Good.{Good}
-use Rattle.shape.specs.Answers.{number}
-use Rattle.shape.proofs.Asked.{done-good, not-done, shape-stop, stripe-4}
+use Rattle.answer.specs.Answers.{number}
+use Rattle.shape.proofs.Asked.{done-good, shape-stop, stripe-4}
+use Rattle.answer.proofs.AnswersLaws.{not-done}
 use Rattle.shape.proofs.GoodLaws.{stripe-done}
 use Rattle.shape.proofs.Shape.stripe_refusal.Statement.{statement}
 use Rattle.shape.proofs.Shape.stripe_refusal.Tie as tie

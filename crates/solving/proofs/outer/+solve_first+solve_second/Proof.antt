@@ -1,5 +1,5 @@
 -- The outer-chain order. The measure of a call is m minus its height; what a symbol asks for is solved before its own chain is added to it.
-use mathlib.Core.Path.{_≡_, ap, _∙_}
+use mathlib.Core.Path.{ap, _∙_}
 use Prim.Native.Nat.{ℕ, _+_, _-_, _<_}
 use native.Mathlib.Omega.{arith}
 use borrow.Fn.Kinds.{In}

@@ -2,7 +2,7 @@
 use native.Mathlib.Omega.{arith}
 use borrow.Author.Needs.{needs}
 use Rattle.shape.proofs.StepLaws.{right-lt}
-use Rattle.shape.proofs.WalkLaws.{right-near, right-far}
+use Rattle.walking.proofs.WalkLaws.{right-near, right-far}
 use Rattle.solving.proofs.outer.above.Statement.{statement}
 use Rattle.solving.proofs.outer.above.Tie as tie
 

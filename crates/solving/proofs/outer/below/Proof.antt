@@ -2,7 +2,7 @@
 use native.Mathlib.Omega.{arith}
 use borrow.Author.Needs.{needs}
 use Rattle.shape.proofs.StepLaws.{left-lt}
-use Rattle.shape.proofs.WalkLaws.{left-near, left-far}
+use Rattle.walking.proofs.WalkLaws.{left-near, left-far}
 use Rattle.solving.proofs.outer.below.Statement.{statement}
 use Rattle.solving.proofs.outer.below.Tie as tie
 

@@ -1,5 +1,5 @@
 -- `order`.
-use Rattle.xor.proofs.AskedLaws.{told-no}
+use Rattle.xor.proofs.TellsLaws.{told-no}
 use Rattle.staging.proofs.ReadingLaws.{read-first, read-second}
 use borrow.Author.Needs.{needs}
 use Rattle.staging.proofs.reading.order.Statement.{statement}

@@ -3,9 +3,10 @@ use mathlib.Core.Path.{refl}
 use native.Mathlib.Omega.{arith}
 use borrow.Author.Needs.{needs}
 use Rattle.shape.specs.Good.{Good}
-use Rattle.shape.specs.Answers.{number}
+use Rattle.answer.specs.Answers.{number}
 use Rattle.stock.specs.Prices.{encode-price, one-price, two-price}
-use Rattle.shape.proofs.Asked.{done-good, not-done}
+use Rattle.shape.proofs.Asked.{done-good}
+use Rattle.answer.proofs.AnswersLaws.{not-done}
 use Rattle.stock.proofs.price_list.prices.Statement.{statement}
 use Rattle.stock.proofs.price_list.prices.Tie as tie
 

@@ -3,7 +3,7 @@ use mathlib.Core.Path.{refl}
 use mathlib.Core.Logic.{inl, inr}
 use native.Mathlib.Omega.{arith}
 use borrow.Author.Needs.{needs}
-use Rattle.shape.specs.Answers.{number}
+use Rattle.answer.specs.Answers.{number}
 use Rattle.stock.specs.Stock.{stock, stock-table}
 use Rattle.stock.proofs.stock_shapes.stock.Statement.{statement}
 use Rattle.stock.proofs.stock_shapes.stock.Tie as tie

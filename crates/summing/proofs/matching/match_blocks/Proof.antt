@@ -3,15 +3,16 @@ use mathlib.Core.Path.{_≡_}
 use mathlib.Core.Logic.{⊎-elim}
 use Prim.Native.Nat.{_+_, _-_, _%_, _≤_}
 use native.Mathlib.Omega.{arith}
-use Rattle.xor.proofs.AskedLaws.{tells-true, tells-false}
-use Rattle.summing.specs.Matching.{Level}
+use Rattle.xor.proofs.TellsLaws.{tells-true, tells-false}
+use Rattle.summing.specs.Sums.{summed}
+use Rattle.summing.specs.Matching.{Level, bytes-at}
 use Rattle.summing.proofs.SumsLaws.{fits-less}
 use Rattle.summing.proofs.MatchingLaws.{level-then}
 use Rattle.summing.proofs.matching.match_blocks.Statement.{statement}
 use Rattle.summing.proofs.matching.match_blocks.Tie as tie
 
 abbrev Inv-loop : tie.InvT-loop
-Inv-loop s out list x u at whole from₀ from = (from ≤ whole) × ((whole - from) % 128 ≡ 0) × Level s out list x u at 0 from
+Inv-loop s out list x u at whole from₀ from = (from ≤ whole) × ((whole - from) % 128 ≡ 0) × Level (summed s out list x) (bytes-at u at) 0 from
 
 abbrev μ-loop : tie.MeasureT-loop
 μ-loop s out list x u at whole from₀ from = whole - from
@@ -42,7 +43,7 @@ loop-again c =
     let at = c .before .before .before in
     let a = at .before .before .before .before .args in
     let l = next (c .before .before) in
-    ⊎-elim (λ z. (omega (arith, z .0, l), omega (arith, z .0, l), λ t lo hi. level-then (a .s .now) (a .out .now) (a .list .now) (a .u .now) (a .x) (a .at) 0 (at .loop .from) (at .loop .from + 128) (at .loop .inv .2) (z .1) t lo (omega (arith, z .0))))
+    ⊎-elim (λ z. (omega (arith, z .0, l), omega (arith, z .0, l), λ t lo hi. level-then (summed (a .s .now) (a .out .now) (a .list .now) (a .x)) (bytes-at (a .u .now) (a .at)) 0 (at .loop .from) (at .loop .from + 128) (at .loop .inv .2) (z .1) t lo (omega (arith, z .0))))
     (λ z. absurd (omega (arith, z .0))) (c .before .match-part .ensures)
 
 returns-2 : tie.Need-returns-2 Inv-loop μ-loop

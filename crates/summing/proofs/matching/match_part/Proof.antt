@@ -1,7 +1,9 @@
 -- `match_part`.
 use mathlib.Core.Path.{refl}
 use mathlib.Core.Logic.{inl, inr}
-use Rattle.xor.proofs.AskedLaws.{told-no}
+use Rattle.xor.proofs.TellsLaws.{told-no}
+use Rattle.summing.specs.Sums.{summed}
+use Rattle.summing.specs.Matching.{bytes-at}
 use Rattle.summing.proofs.MatchingLaws.{same-level, level-same}
 use borrow.Author.Needs.{needs}
 use Rattle.summing.proofs.matching.match_part.Statement.{statement}
@@ -21,7 +23,7 @@ returns c =
     let a = c .before .before .before .before .before .before .before .args in
     inl (
       refl,
-      same-level (a .s .now) (a .out .now) (a .list .now) (a .u .now) (a .x) (a .at) (a .from) (a .len) _ (c .before .before .before .sum .ensures)
+      same-level (summed (a .s .now) (a .out .now) (a .list .now) (a .x)) (bytes-at (a .u .now) (a .at)) (a .u .now) (a .at) (λ t. refl) (a .from) (a .len) _ (c .before .before .before .sum .ensures)
           (c .before .same .ensures .yes (c .if1 .taken)),
     )
 
@@ -31,7 +33,7 @@ returns-2 c =
     inr (
       refl,
       λ h. told-no (c .before .same .ensures) (c .if1 .left)
-          (level-same (a .s .now) (a .out .now) (a .list .now) (a .u .now) (a .x) (a .at) (a .from) (a .len) _ (c .before .before .before .sum .ensures) h),
+          (level-same (summed (a .s .now) (a .out .now) (a .list .now) (a .x)) (bytes-at (a .u .now) (a .at)) (a .u .now) (a .at) (λ t. refl) (a .from) (a .len) _ (c .before .before .before .sum .ensures) h),
     )
 
 pub match-part-spec : {M : Type 1} → statement M

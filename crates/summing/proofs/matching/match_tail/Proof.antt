@@ -1,15 +1,15 @@
 -- `match_tail`. The invariant: the bytes from `start` to before `from` are the same. The measure: the bytes to go.
-use mathlib.Core.Logic.{⊎-elim}
-use Prim.Native.Nat.{_-_, _≤_}
+use Prim.Native.Nat.{_+_, _-_, _≤_}
 use native.Mathlib.Omega.{arith}
-use Rattle.xor.proofs.AskedLaws.{tells-true, tells-false}
-use Rattle.summing.specs.Matching.{Level}
-use Rattle.summing.proofs.MatchingLaws.{level-then}
+use Rattle.xor.proofs.TellsLaws.{tells-true, tells-false}
+use Rattle.summing.specs.Sums.{summed}
+use Rattle.summing.specs.Matching.{Level, bytes-at}
+use Rattle.summing.proofs.MatchingLaws.{found-on, found-end}
 use Rattle.summing.proofs.matching.match_tail.Statement.{statement}
 use Rattle.summing.proofs.matching.match_tail.Tie as tie
 
 abbrev Inv-loop : tie.InvT-loop
-Inv-loop w s out list x u at start from₀ from = (start ≤ from) × (from ≤ w) × Level s out list x u at start from
+Inv-loop w s out list x u at start from₀ from = (start ≤ from) × (from ≤ w) × Level (summed s out list x) (bytes-at u at) start from
 
 abbrev μ-loop : tie.MeasureT-loop
 μ-loop w s out list x u at start from₀ from = w - from
@@ -23,19 +23,23 @@ match-some-requires c κs = let s = c .before .before .before .before .before in
 returns : tie.Need-returns Inv-loop μ-loop
 returns c =
     let at = c .before .before .before in
-    tells-false (⊎-elim (λ z. absurd (omega (arith, z .0))) (λ z h. z .1 (λ t a b. h t (omega (arith, at .loop .inv .0)) b)) (c .before .match-some .ensures))
+    tells-false (found-end _ _ _ (at .loop .from) _ _ (c .before .match-some .ensures) (omega arith) (at .loop .inv .0))
+
+-- the search goes on
+on : (c : tie.Else1 Inv-loop μ-loop) → let l = c .before .before .before .loop in
+    let a = c .before .before .before .before .before .before .before .args in
+    let r = c .before .match-some .result in
+    (1 ≤ r) × (l .from + r ≤ a .w) × Level (summed (a .s .now) (a .out .now) (a .list .now) (a .x)) (bytes-at (a .u .now) (a .at)) (a .start) (l .from + r)
+on c = let l = c .before .before .before .loop in found-on _ _ _ (l .from) _ _ (c .before .match-some .ensures) (λ e. omega (arith, e)) (l .inv .2)
 
 add-from : tie.Need-add-from Inv-loop μ-loop
-add-from c = ⊎-elim (λ z. omega (arith, z .1)) (λ z. absurd (omega (arith, z .0))) (c .before .match-some .ensures)
+add-from c = omega (arith, on c .1)
 
 loop-less : tie.Need-loop-less Inv-loop μ-loop
-loop-less c = ⊎-elim (λ z. omega (arith, z .0, z .1)) (λ z. absurd (omega (arith, z .0))) (c .before .match-some .ensures)
+loop-less c = omega (arith, on c .0, on c .1)
 
 loop-again : tie.Need-loop-again Inv-loop μ-loop
-loop-again c =
-    let at = c .before .before .before in
-    let a = at .before .before .before .before .args in
-    ⊎-elim (λ z. (omega (arith, at .loop .inv .0), z .1, level-then (a .s .now) (a .out .now) (a .list .now) (a .u .now) (a .x) (a .at) (a .start) (at .loop .from) _ (at .loop .inv .2) (z .2))) (λ z. absurd (omega (arith, z .0))) (c .before .match-some .ensures)
+loop-again c = (omega (arith, c .before .before .before .loop .inv .0), on c .1, on c .2)
 
 returns-2 : tie.Need-returns-2 Inv-loop μ-loop
 returns-2 c =

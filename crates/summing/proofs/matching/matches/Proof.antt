@@ -1,7 +1,9 @@
 -- `matches`: the whole blocks, then the tail after them.
 use native.Mathlib.Omega.{arith}
 use borrow.Author.Needs.{needs}
-use Rattle.xor.proofs.AskedLaws.{tells-false, told-no}
+use Rattle.xor.proofs.TellsLaws.{tells-false, told-no}
+use Rattle.summing.specs.Sums.{summed}
+use Rattle.summing.specs.Matching.{bytes-at}
 use Rattle.summing.proofs.SumsLaws.{fits-less}
 use Rattle.summing.proofs.MatchingLaws.{level-then}
 use Rattle.summing.proofs.matching.matches.Statement.{statement}
@@ -22,7 +24,7 @@ returns c =
     let front = c .before .before .match-blocks .ensures .yes (c .before .if1 .taken) in
     let tail = c .match-tail .ensures in
     record {
-      yes = λ e. level-then (a .s .now) (a .out .now) (a .list .now) (a .u .now) (a .x) (a .at) 0 _ (a .w) front (tail .yes e);
+      yes = λ e. level-then (summed (a .s .now) (a .out .now) (a .list .now) (a .x)) (bytes-at (a .u .now) (a .at)) 0 _ (a .w) front (tail .yes e);
       no = λ h. tail .no (λ t lo hi. h t (omega arith) hi);
     }
 

@@ -1,15 +1,14 @@
 -- `sum`: the first two symbols, then the list's two by two. The invariant: those below i are added; the measure: the places to go.
-use mathlib.Core.Path.{_≡_, refl, ap, _∙_}
+use mathlib.Core.Path.{_≡_, refl, ap}
 use mathlib.Core.Logic.{⊎-elim}
 use mathlib.Core.Bool.{cond}
-use mathlib.Core.List.{List}
-use Prim.Native.Nat.{ℕ, _+_, _-_, _%_, _≤_, _<_}
+use Prim.Native.Nat.{_+_, _-_, _%_, _≤_}
 use native.Mathlib.Omega.{arith}
 use borrow.Author.Needs.{needs}
 use denote.Ref.{now}
 use lib.ListN.{length, getD}
 use Rattle.xor.specs.Xor.{_⊕_}
-use Rattle.xor.specs.Block.{Block}
+use Rattle.block.specs.Block.{Block}
 use Rattle.summing.specs.Sums.{flat, summed}
 use Rattle.summing.proofs.SumsLaws.{start-at, more-at}
 use Rattle.summing.proofs.sums.sum.Statement.{statement}

@@ -1,6 +1,6 @@
 -- `sum_blocks`. The invariant: the bytes below `from` are set, and what is left is a number of whole blocks. The measure: the bytes to go.
 use mathlib.Core.Path.{_≡_}
-use Prim.Native.Nat.{_+_, _-_, _%_, _≤_}
+use Prim.Native.Nat.{_-_, _%_, _≤_}
 use native.Mathlib.Omega.{arith}
 use Rattle.summing.specs.Sums.{Summed}
 use Rattle.summing.proofs.SumsLaws.{fits-less, fits-like, summed-none, summed-then}

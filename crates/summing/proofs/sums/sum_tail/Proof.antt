@@ -1,6 +1,6 @@
 -- `sum_tail`. The invariant: the bytes from `start` to below `from` are set. The measure: the bytes to go.
 use mathlib.Core.Path.{_≡_}
-use Prim.Native.Nat.{_+_, _-_, _≤_}
+use Prim.Native.Nat.{_-_, _≤_}
 use native.Mathlib.Omega.{arith}
 use Rattle.summing.specs.Sums.{Summed}
 use Rattle.summing.proofs.SumsLaws.{fits-like, summed-none, summed-then}

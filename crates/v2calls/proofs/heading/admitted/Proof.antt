@@ -1,7 +1,7 @@
 -- `admitted`: each refusal contradicts one field of the record, and past them all hold.
 use native.Mathlib.Omega.{arith}
 use borrow.Author.Tests.{leb-true, le-leb}
-use Rattle.xor.proofs.AskedLaws.{tells-true, tells-false}
+use Rattle.xor.proofs.TellsLaws.{tells-true, tells-false}
 use Rattle.v2calls.proofs.heading.admitted.Statement.{statement}
 use Rattle.v2calls.proofs.heading.admitted.Tie as tie
 

@@ -3,7 +3,7 @@ use mathlib.Core.Path.{_≡_, refl, sym}
 use Prim.Native.Nat.{ℕ, _+_, _≤_}
 use native.Mathlib.Omega.{arith}
 use borrow.Author.Needs.{needs}
-use Rattle.shape.specs.Answers.{number}
+use Rattle.answer.specs.Answers.{number}
 use Rattle.v2calls.specs.Told.{Makes}
 use Rattle.v2calls.proofs.making.make.Statement.{statement}
 use Rattle.v2calls.proofs.making.make.Tie as tie

@@ -1,6 +1,5 @@
 -- `serve_all`: the state is steady before each call. The measure is the number of turns that are left.
 use mathlib.Core.Path.{_≡_}
-use Prim.Native.Nat.{_-_}
 use borrow.Author.Needs.{needs}
 use lib.ListN.{length}
 use Rattle.v2calls.specs.Room.{Steady}

@@ -1,0 +1,2 @@
+pub mod AnswersLaws
+pub mod OutcomeLaws

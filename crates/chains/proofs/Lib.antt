@@ -1,2 +1,0 @@
-pub mod MarksLaws
-pub mod WordsLaws

@@ -1,0 +1,2 @@
+pub mod ColumnLaws
+pub mod HandedLaws

@@ -1,0 +1,6 @@
+pub mod BufferLaws
+pub mod FrontLaws
+pub mod KindsLaws
+pub mod DoesLaws
+pub mod ToldLaws
+pub mod HoldingLaws

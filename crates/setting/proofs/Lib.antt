@@ -1,0 +1,2 @@
+pub mod ShapingLaws
+pub mod WritingLaws

@@ -1,0 +1,5 @@
+pub mod Struck
+pub mod StoreLaws
+pub mod Symbols
+pub mod StruckOutcome
+pub mod SetLaws

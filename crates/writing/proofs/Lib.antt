@@ -1,0 +1,4 @@
+pub mod WriteLaws
+pub mod Parities
+pub mod Changed
+pub mod CarriedLaws

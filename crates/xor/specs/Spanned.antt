@@ -1,0 +1,12 @@
+-- BYTES BY THEIR PLACE: what a kernel leaves in a slice. Definitions only.
+use mathlib.Core.Path.{_≡_}
+use mathlib.Core.Logic.{_⊎_}
+use mathlib.Core.List.{List}
+use Prim.Native.Nat.{ℕ, _+_, _≤_, _<_}
+use lib.ListN.{length, getD}
+
+-- ys is xs with f 0, f 1, .. f (len - 1) from `to` on
+pub record Spanned (f : ℕ → ℕ) (xs ys : List ℕ) (to len : ℕ) : Type 0 where
+  pub long : length ys ≡ length xs
+  pub at : (t : ℕ) → t < len → getD ys (to + t) 0 ≡ f t
+  pub rest : (i : ℕ) → (i < to) ⊎ (to + len ≤ i) → getD ys i 0 ≡ getD xs i 0
