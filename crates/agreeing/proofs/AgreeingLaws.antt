@@ -25,12 +25,12 @@ use Rattle.rule.proofs.OrderLaws.{walk-lt, walk-pos, walk-reach}
 use Rattle.solving.specs.declared.Gone.{Gone}
 use Rattle.summing.specs.declared.Sum.{Sum}
 use Rattle.summing.specs.Sums.{summed}
-use Rattle.summing.specs.Sources.{besides, Sourced}
+use Rattle.sourcing.specs.Sources.{besides, Sourced}
 use Rattle.solving.specs.Outer.{column-of, base-of, spot, chain-of}
-use Rattle.summing.specs.Matching.{Level, bytes-at}
-use Rattle.agreeing.specs.Holding.{Even}
+use Rattle.matching.specs.Matching.{Level, bytes-at}
+use Rattle.standing.specs.Standing.{Even}
 use Rattle.agreeing.specs.Agreeing.{patched, Uses, Holds, distance, Patchable}
-use Rattle.summing.proofs.FlatLaws.{symbol-at}
+use Rattle.sourcing.proofs.FlatLaws.{symbol-at}
 use Rattle.agreeing.proofs.ChangedLaws.{distance-of, distance-none, distance-near, p-f, p-g, left-f, changed-chain, unchanged-chain}
 
 -- ---- the stripe with its lost columns in place

@@ -20,7 +20,7 @@ use Rattle.rule.specs.Outer.{walk}
 use Rattle.rule.proofs.ChainLaws.{chain-xor, chain-cong, chain-none}
 use Rattle.rule.proofs.OrderLaws.{walk-lt, walk-reach, walk-round}
 use Rattle.rule.proofs.Only.{only, only-there, only-none, hit-left, hit-right}
-use Rattle.summing.specs.Sources.{beside, besides}
+use Rattle.sourcing.specs.Sources.{beside, besides}
 use Rattle.agreeing.specs.Agreeing.{distance}
 
 -- ---- distances

@@ -1,5 +1,4 @@
 pub mod ChangedLaws
-pub mod HoldingLaws
 pub mod AgreeingLaws
 pub mod RoomLaws
 pub mod StretchLaws

@@ -1,12 +1,11 @@
 -- Which chains remain: up from first, those nearer than second, or than first's symbols reach, and those beyond the lost columns.
 -- No lost symbol is solved from them, and from every other chain one is: no chain is left out.
--- To cite: right-on, so-far; ends, between-free, agreed-tells, agreed-not, agreed-none.
+-- To cite: ends, between-free, agreed-tells, agreed-not, agreed-none.
 use mathlib.Core.Path.{_≡_, refl, sym, ap, _∙_, subst}
 use mathlib.Core.Logic.{_⊎_, inl, inr, ⊎-elim}
 use mathlib.Core.Bool.{Bool}
 use mathlib.Core.List.{List}
-use Prim.Native.Nat.{ℕ, _+_, _-_, _*_, _%_, _≤_, _<_}
-use native.Mathlib.Nat.{mod-add-mod}
+use Prim.Native.Nat.{ℕ, _+_, _-_, _*_, _≤_, _<_}
 use native.Mathlib.Omega.{arith}
 use native.Mathlib.Decide.{decLt}
 use borrow.Author.Tests.{lt-ltb, le-ltb}
@@ -19,25 +18,11 @@ use Rattle.walking.proofs.WalkLaws.{right-near}
 use Rattle.rule.specs.Outer.{walk}
 use Rattle.rule.proofs.OrderLaws.{walk-lt, walk-reach, walk-ends}
 use Rattle.solving.specs.declared.Gone.{Gone}
-use Rattle.agreeing.specs.Holding.{Even}
+use Rattle.standing.specs.Standing.{Even}
+use Rattle.standing.proofs.Stretch.{right-on}
 use Rattle.agreeing.specs.Agreeing.{Uses, Holds, Agreed, distance, past, In-order, Patchable}
 use Rattle.agreeing.proofs.ChangedLaws.{distance-of, distance-none}
 use Rattle.agreeing.proofs.AgreeingLaws.{same-distance, uses-near, off-first, off-second, even-holds, holds-even}
-
--- ---- one chain after another
-
--- i up, and d up from there
-pub right-on : (n c i d : ℕ) → right n (right n c i) d ≡ right n c (i + d)
-unfolding right
-right-on n c i d = let e : c + i + d ≡ c + (i + d) = omega arith in mod-add-mod (c + i) n d ∙ ap (λ (x : ℕ). x % n) e
-
--- what holds of those before i, and of i
-pub so-far : (P : ℕ → Type 0) (i : ℕ) → ((j : ℕ) → j < i → P j) → P i → (j : ℕ) → j < i + 1 → P j
-so-far P i before here j h = at (decLt j i)
-  where
-    at : Dec (j < i) → P j
-    at (yes l) = before j l
-    at (no l) = let e : i ≡ j = omega arith in subst P e here
 
 -- ---- the lost columns are in order, and there is a first; `end` is how far it is up to second
 

@@ -9,15 +9,13 @@ ghost use Rattle.shape.specs.Place.{place};
 ghost use Rattle.shape.specs.Step.{right};
 ghost use Rattle.listing.specs.Places.{Table};
 ghost use Rattle.agreeing.specs.Agreeing.{distance, past, Uses, Holds, Patchable, In-order, Agreed};
-use crate::holding::all_even;
+use matching::matches;
 use shape::Shape;
 use solving::Gone;
 use solving::above;
 use solving::below;
-use summing::matches;
-use summing::sources;
-
-mod holding;
+use sourcing::sources;
+use standing::all_even;
 
 // How far it is to walk upward from column a to column b; m, which is too far, if one of them is no column.
 fn apart(sh: Shape, a: usize, b: usize) -> usize

@@ -16,7 +16,7 @@ use Rattle.shape.specs.declared.Shape.{Shape}
 use Rattle.shape.specs.Place.{byte}
 use Rattle.summing.specs.declared.Sum.{Sum}
 use Rattle.summing.specs.Sums.{summed, Clear, Summed, Apart}
-use Rattle.summing.specs.Sources.{besides, Sourced}
+use Rattle.sourcing.specs.Sources.{besides, Sourced}
 
 module _ (sh : Shape) (p side d h b : ℕ) (list : List ℕ) (x : Sum) (c : Sourced sh p side d side h b list x) where
   -- what is asked for is below m

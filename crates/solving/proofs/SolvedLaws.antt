@@ -22,7 +22,7 @@ use Rattle.rule.proofs.Solve.{Order, Pair, side-column, side-chain, side-parts,
 use Rattle.rule.proofs.Reading.{reading-order}
 use Rattle.rule.proofs.OuterLaws.{first-of, second-of, walk-of, outer-from}
 use Rattle.solving.specs.declared.Gone.{Gone}
-use Rattle.summing.specs.Sources.{beside, besides}
+use Rattle.sourcing.specs.Sources.{beside, besides}
 use Rattle.solving.specs.Outer.{column-of, chain-of, Solved}
 
 -- the number of a side: second's is 1

@@ -12,7 +12,7 @@ use Rattle.xor.proofs.Span.{span-same}
 use Rattle.shape.specs.Place.{byte}
 use Rattle.rule.proofs.Solve.{cond-cong}
 use Rattle.solving.specs.declared.Gone.{Gone}
-use Rattle.summing.specs.Sources.{besides}
+use Rattle.sourcing.specs.Sources.{besides}
 use Rattle.solving.specs.Outer.{column-of, spot, chain-of, Solved, Stores, alone, after, turned, Ready}
 use Rattle.summing.specs.Sums.{Apart}
 

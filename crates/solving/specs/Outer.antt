@@ -12,7 +12,7 @@ use Rattle.shape.specs.Place.{place, byte}
 use Rattle.shape.specs.Step.{left, right}
 use Rattle.solving.specs.declared.Gone.{Gone}
 use Rattle.summing.specs.Sums.{Apart}
-use Rattle.summing.specs.Sources.{besides}
+use Rattle.sourcing.specs.Sources.{besides}
 
 -- a side is 0 for first and 1 for second: its column, and where its symbol of height d stands in the buffer, the column being laid out as in a stripe
 unfoldable pub column-of : Gone → ℕ → ℕ

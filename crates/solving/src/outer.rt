@@ -11,12 +11,12 @@ ghost use Rattle.shape.specs.Place.{place, byte};
 ghost use Rattle.shape.specs.Placed.{Stepped};
 ghost use Rattle.shape.specs.Step.{left, right};
 ghost use Rattle.listing.specs.Places.{Table};
-ghost use Rattle.summing.specs.Sources.{besides};
+ghost use Rattle.sourcing.specs.Sources.{besides};
 ghost use Rattle.solving.specs.Outer.{Solved, Stores, Ready};
 ghost use Rattle.summing.specs.Sums.{Apart};
 use crate::Gone;
 use shape::Shape;
-use summing::sources;
+use sourcing::sources;
 use summing::sum_symbol;
 
 // The column d to the left of c, modulo n, without a division.

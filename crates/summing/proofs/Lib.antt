@@ -1,4 +1,1 @@
 pub mod SumsLaws
-pub mod FlatLaws
-pub mod SourcesLaws
-pub mod MatchingLaws

@@ -8,7 +8,7 @@ use Rattle.shape.specs.Step.{right}
 use Rattle.shape.proofs.StepLaws.{right-zero, right-reach}
 use Rattle.agreeing.specs.Agreeing.{Holds}
 use Rattle.agreeing.proofs.AgreeingLaws.{same-distance}
-use Rattle.agreeing.proofs.StretchLaws.{right-on, so-far}
+use Rattle.standing.proofs.Stretch.{right-on, so-far}
 use Rattle.agreeing.proofs.between.Statement.{statement}
 use Rattle.agreeing.proofs.between.Tie as tie
 
