@@ -8,7 +8,7 @@ ghost use Rattle.xor.specs.Spanned.{Spanned};
 ghost use Rattle.block.specs.Block.{longest, Block};
 
 // The longest block.
-const LONGEST: usize = 128;
+pub const LONGEST: usize = 128;
 
 // Sets acc to the sum of the len bytes of s from a on and those of t from b on; whoever calls it stays within the slices.
 pub fn both(acc: &mut [u8; LONGEST], s: &[u8], a: usize, t: &[u8], b: usize, len: usize)

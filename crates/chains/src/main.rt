@@ -2,13 +2,15 @@
 // What cannot be drawn gets one sentence on standard error instead.
 ghost use Rattle.shape.specs.Good.{Good};
 ghost use Rattle.words.specs.Words.{Refused};
+use crate::picture::every;
+use crate::picture::picture;
 use answer::Answer;
-use picture::every;
-use picture::picture;
 use shape::Shape;
 use words::bytes;
 use words::next_word;
 use words::number;
+
+mod picture;
 
 // As many bytes as the buffer of the input has; an input that fills it may be cut off.
 const ROOM: usize = 4096;

@@ -6,9 +6,7 @@ ghost use lib.Count.{ones};
 ghost use Rattle.xor.specs.Tells.{Tells};
 ghost use Rattle.block.specs.Block.{longest};
 ghost use Rattle.looking.specs.Looking.{Zero, Same, Ones};
-
-// The longest block.
-const LONGEST: usize = 128;
+use block::LONGEST;
 
 // Whether the first len bytes of acc are 0; whoever calls it stays within the block.
 pub fn none(acc: &[u8; LONGEST], len: usize) -> bool

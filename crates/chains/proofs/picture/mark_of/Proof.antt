@@ -3,9 +3,9 @@ use mathlib.Core.Logic.{inl, inr}
 use borrow.Author.Needs.{needs}
 use native.Mathlib.Omega.{arith}
 use Rattle.shape.specs.Place.{height}
-use Rattle.picture.proofs.MarksLaws.{marked-parity, marked-not-parity, marked-information, marked-not-information}
-use Rattle.picture.proofs.mark_of.Statement.{statement}
-use Rattle.picture.proofs.mark_of.Tie as tie
+use Rattle.chains.proofs.MarksLaws.{marked-parity, marked-not-parity, marked-information, marked-not-information}
+use Rattle.chains.proofs.picture.mark_of.Statement.{statement}
+use Rattle.chains.proofs.picture.mark_of.Tie as tie
 
 height-requires : tie.Need-height-requires
 height-requires c κs = search needs

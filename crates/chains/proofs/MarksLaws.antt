@@ -6,8 +6,8 @@ use native.Mathlib.Omega.{arith}
 use Rattle.shape.specs.declared.Shape.{Shape}
 use Rattle.shape.specs.Place.{height}
 use Rattle.shape.specs.Step.{left, right}
-use Rattle.picture.specs.declared.Mark.the-variants.{Parity, Information, Other}
-use Rattle.picture.specs.Marks.{InChain, parity, information, by-height, Marked}
+use Rattle.chains.specs.declared.picture.Mark.the-variants.{Parity, Information, Other}
+use Rattle.chains.specs.Marks.{InChain, parity, information, by-height, Marked}
 
 -- an information symbol's mark
 high : (d : ℕ) → 1 ≤ d → Information d ≡ by-height d

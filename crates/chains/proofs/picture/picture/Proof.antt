@@ -1,8 +1,8 @@
 -- `picture`: the measure is the rows to go.
 use Prim.Native.Nat.{_-_, _≤_}
 use borrow.Author.Needs.{needs}
-use Rattle.picture.proofs.picture.Statement.{statement}
-use Rattle.picture.proofs.picture.Tie as tie
+use Rattle.chains.proofs.picture.picture.Statement.{statement}
+use Rattle.chains.proofs.picture.picture.Tie as tie
 
 abbrev Inv-loop : tie.InvT-loop
 Inv-loop shape p m row₀ row = row ≤ m

@@ -1,8 +1,8 @@
 -- `heading`: the measure is the columns to go.
 use Prim.Native.Nat.{_-_, _≤_}
 use borrow.Author.Needs.{needs}
-use Rattle.picture.proofs.heading.Statement.{statement}
-use Rattle.picture.proofs.heading.Tie as tie
+use Rattle.chains.proofs.picture.heading.Statement.{statement}
+use Rattle.chains.proofs.picture.heading.Tie as tie
 
 abbrev Inv-loop : tie.InvT-loop
 Inv-loop n c₀ t5 c = c ≤ n

@@ -5,8 +5,8 @@ use Prim.Native.Nat.{ℕ, zero, suc, _≤_}
 use Rattle.shape.specs.declared.Shape.{Shape}
 use Rattle.shape.specs.Place.{height}
 use Rattle.shape.specs.Step.{left, right}
-use Rattle.picture.specs.declared.Mark.{Mark}
-use Rattle.picture.specs.declared.Mark.the-variants.{Parity, Information, Other}
+use Rattle.chains.specs.declared.picture.Mark.{Mark}
+use Rattle.chains.specs.declared.picture.Mark.the-variants.{Parity, Information, Other}
 
 -- "Chain p consists of the parity symbol of column p and, for every height d, the symbols of height d in columns p-d and p+d, counted modulo n."
 -- Whether the symbol of row i in column c is one of them: heights are 1 to m-1, and the parity row has height 0.

@@ -1,11 +1,11 @@
 // The stripe as a grid of rows and columns, with one chain marked.
 ghost use Prim.Native.Nat.{_<_};
 ghost use Rattle.shape.specs.Good.{Good};
-ghost use Rattle.picture.specs.Marks.{Marked};
+ghost use Rattle.chains.specs.Marks.{Marked};
 use shape::Shape;
 
 // What a symbol is to a chain: its parity symbol, one of its information symbols, with the height, or no symbol of it.
-pub enum Mark {
+pub(crate) enum Mark {
     Parity,
     Information(usize),
     Other,
@@ -95,8 +95,8 @@ fn legend(p: usize) {
     );
 }
 
-// Prints the stripe with chain p marked; whoever calls it has had `refusal` answer Done, and asks for a chain of the shape.
-pub fn picture(shape: Shape, p: usize)
+// Prints the stripe with chain p marked.
+pub(crate) fn picture(shape: Shape, p: usize)
     requires { ⌜ (Good shape) × (p < shape .n) ⌝ }
 {
     let m = shape.m;
@@ -109,8 +109,8 @@ pub fn picture(shape: Shape, p: usize)
     legend(p);
 }
 
-// Prints the stripe once for each chain, with an empty line between two; whoever calls it has had `refusal` answer Done.
-pub fn every(shape: Shape)
+// Prints the stripe once for each chain, with an empty line between two.
+pub(crate) fn every(shape: Shape)
     requires { ⌜ Good shape ⌝ }
 {
     let n = shape.n;

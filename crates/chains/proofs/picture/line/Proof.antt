@@ -1,8 +1,8 @@
 -- `line`: the measure is the columns to go.
 use Prim.Native.Nat.{_-_, _≤_}
 use borrow.Author.Needs.{needs}
-use Rattle.picture.proofs.line.Statement.{statement}
-use Rattle.picture.proofs.line.Tie as tie
+use Rattle.chains.proofs.picture.line.Statement.{statement}
+use Rattle.chains.proofs.picture.line.Tie as tie
 
 abbrev Inv-loop : tie.InvT-loop
 Inv-loop shape p row n c₀ t7 c = c ≤ n

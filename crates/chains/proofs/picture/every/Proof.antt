@@ -1,8 +1,8 @@
 -- `every`: the measure is the chains to go.
 use Prim.Native.Nat.{_-_, _≤_}
 use borrow.Author.Needs.{needs}
-use Rattle.picture.proofs.every.Statement.{statement}
-use Rattle.picture.proofs.every.Tie as tie
+use Rattle.chains.proofs.picture.every.Statement.{statement}
+use Rattle.chains.proofs.picture.every.Tie as tie
 
 abbrev Inv-loop : tie.InvT-loop
 Inv-loop shape n p₀ t4 p = p ≤ n
