@@ -1,4 +1,4 @@
-// A block: up to 128 bytes that are worked on at a time, sums of bytes of a slice. These functions make it and store it.
+// A block: up to 128 bytes that are worked on at a time, bytes of a slice or sums of them. These functions make it and store it.
 // The length of a block stays 128; the calls look at its first len bytes.
 ghost use mathlib.Core.Path.{_≡_};
 ghost use Prim.Native.Nat.{_+_, _≤_};
@@ -56,6 +56,20 @@ pub fn join(acc: &mut [u8; LONGEST], other: &[u8; LONGEST], len: usize)
         acc[k] = acc[k] ^ other[k];
         k += 1;
     }
+}
+
+// The len bytes of s from `at` on, as a block; whoever calls it stays within the slice and the block.
+pub fn get(s: &[u8], at: usize, len: usize) -> [u8; LONGEST]
+    requires { ⌜ (len ≤ longest) × (at + len ≤ length (now s)) ⌝ }
+    ensures { λ r. ⌜ Block (λ t. getD (now (s .entry)) (at + t) 0) len r ⌝ }
+{
+    let mut acc = [0u8; LONGEST];
+    let mut k = 0;
+    while k < len {
+        acc[k] = s[at + k];
+        k += 1;
+    }
+    acc
 }
 
 // Stores the first len bytes of acc into s from `at` on; whoever calls it stays within the slice.

@@ -1,17 +1,30 @@
--- Laws of a symbol stored: what `copy` leaves, and what raw store has done with it.
-use mathlib.Core.Path.{_≡_}
+-- Laws of a symbol stored: what its bytes leave, stored in two parts or at once, and what raw store has done with it.
+use mathlib.Core.Path.{_≡_, refl}
 use mathlib.Core.List.{List}
-use Prim.Native.Nat.{ℕ, _<_}
-use lib.ListN.{getD}
+use Prim.Native.Nat.{ℕ, _+_, _-_, _≤_, _<_}
+use native.Mathlib.Omega.{arith}
+use borrow.Rule.Slice.PartAt.{part-to-end}
+use lib.ListN.{length, getD, take, drop, length-drop}
+use lib.Seq.{getD-drop}
 use Rattle.xor.specs.Spanned.{Spanned}
+use Rattle.xor.proofs.Span.{span-same, span-then}
 use Rattle.shape.specs.declared.Shape.{Shape}
 use Rattle.shape.specs.Place.{height, place}
 use Rattle.storing.specs.Set.{Set}
 use Rattle.storing.specs.Store.{Stored}
 use Rattle.storing.proofs.Symbols.{symbol-new, symbol-rest}
 
+-- the bytes below `whole`, and the rest of them right after those, are all of x
+pub span-rest : (x s s₁ s₂ : List ℕ) (at whole : ℕ) → whole ≤ length x → Spanned (λ t. getD x t 0) s s₁ at whole
+    → Spanned (λ t. getD (take (length x - whole) (drop whole x)) t 0) s₁ s₂ (at + whole) (length (take (length x - whole) (drop whole x)))
+    → Spanned (λ t. getD x t 0) s s₂ at (length x)
+span-rest x s s₁ s₂ at whole h u v =
+    let rest : Spanned (λ t. getD (drop whole x) t 0) s₁ s₂ (at + whole) (length x - whole) = rw (part-to-end x whole, length-drop whole x) at v in
+    let e : length x ≡ whole + (length x - whole) = omega arith in
+    rw e (span-then (λ t. getD x t 0) u (span-same (λ t. getD x (whole + t) 0) rest refl (λ t l. getD-drop whole x t 0)))
+
 module _ (sh : Shape) (s s′ x : List ℕ) (len at : ℕ) (all : len ≡ sh .w) where
-  -- by `copy` at the symbol's place
+  -- at the symbol's place
   pub set-copied : (d c : ℕ) → d < sh .m → at ≡ place sh d c 0 → Spanned (λ t. getD x t 0) s s′ at len → Set sh s d c x s′
   set-copied d c hd e u =
       let v : Spanned (λ t. getD x t 0) s s′ (place sh d c 0) (sh .w) = rw (e, all) at u in record {

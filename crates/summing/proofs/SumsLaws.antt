@@ -6,11 +6,10 @@ use mathlib.Core.List.{List}
 use Prim.Native.Nat.{ℕ, suc, _+_, _-_, _≤_, _<_}
 use native.Mathlib.Nat.{add-assoc}
 use native.Mathlib.Omega.{arith}
-use native.Mathlib.Decide.{decLt}
 use lib.ListN.{length, getD}
 use Rattle.xor.specs.Xor.{_⊕_}
 use Rattle.xor.specs.Spanned.{Spanned}
-use Rattle.xor.proofs.Span.{span-same}
+use Rattle.xor.proofs.Span.{span-same, span-then}
 use Rattle.xor.proofs.XorLaws.{⊕-assoc, ⊕-zero-r}
 use Rattle.summing.specs.declared.Sum.{Sum}
 use Rattle.summing.specs.Sums.{flat, summed, Fits, Clear, Summed}
@@ -110,19 +109,13 @@ module _ (s l : List ℕ) (x : Sum) (at w : ℕ) (clear : Clear x at w) (out out
       pick false f = refl
 
   pub summed-then : Summed s l x at lo hi out out₂
-  summed-then = record {
-    long = two .long ∙ one .long;
-    at = λ t h. put t h (decLt t (mid - lo));
-    rest = λ i h. two .rest i (⊎-elim (λ z. inl (omega arith)) (λ z. inr (omega arith)) h) ∙ one .rest i (⊎-elim (λ z. inl z) (λ z. inr (omega arith)) h);
-  }
+  summed-then = rw long (span-then (λ t. summed s out l x (lo + t)) one (span-same (λ t. summed s out l x (lo + (mid - lo + t))) two (omega arith) next))
     where
-      put : (t : ℕ) → t < hi - lo → Dec (t < mid - lo) → getD out₂ (at + lo + t) 0 ≡ summed s out l x (lo + t)
-      put t h (yes k) = two .rest (at + lo + t) (inl (omega arith)) ∙ one .at t k
-      put t h (no k) =
-          let u = t - (mid - lo) in
-          let e : at + lo + t ≡ at + mid + u = omega arith in
-          let f : mid + u ≡ lo + t = omega arith in
-          ap (λ (i : ℕ). getD out₂ i 0) e ∙ two .at u (omega arith) ∙ ap (summed s out₁ l x) f ∙ same (lo + t) (omega arith) (omega arith)
+      long : hi - lo ≡ mid - lo + (hi - mid)
+      long = omega arith
+
+      next : (t : ℕ) → t < hi - mid → summed s out₁ l x (mid + t) ≡ summed s out l x (lo + (mid - lo + t))
+      next t h = let e : mid + t ≡ lo + (mid - lo + t) = omega arith in same (mid + t) (omega arith) (omega arith) ∙ ap (summed s out l x) e
 
 -- nothing yet
 pub summed-none : (s l : List ℕ) (x : Sum) (at lo : ℕ) (out : List ℕ) → Summed s l x at lo lo out out

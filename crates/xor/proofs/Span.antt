@@ -1,9 +1,11 @@
--- Laws of Spanned. To cite: span-none and span-more for a loop that stores to `to + i` at turn i, span-same to say a span otherwise.
+-- Laws of Spanned. To cite: span-none and span-more for a loop that stores to `to + i` at turn i, span-same to say a span otherwise, span-then for two
+-- spans that are neighbours.
 use mathlib.Core.Path.{_≡_, refl, sym, ap, _∙_}
 use mathlib.Core.Logic.{⊎-elim, inl, inr}
 use mathlib.Core.List.{List}
-use Prim.Native.Nat.{ℕ, _+_, _<_}
+use Prim.Native.Nat.{ℕ, _+_, _-_, _<_}
 use native.Mathlib.Omega.{arith}
+use native.Mathlib.Decide.{decLt}
 use borrow.Author.Count.{below-more}
 use lib.ListN.{length, getD, set, length-set}
 use lib.Seq.{getD-set-same, getD-set-other}
@@ -28,3 +30,18 @@ span-same g {ys = ys} u q e = record {
   at = λ t l. ap (λ (x : ℕ). getD ys (x + t) 0) (sym q) ∙ u .at t l ∙ e t l;
   rest = λ i w. u .rest i (⊎-elim (λ l. inl (omega arith)) (λ l. inr (omega arith)) w);
 }
+
+-- a span and the one right after it are one span
+pub span-then : (f : ℕ → ℕ) {xs ys zs : List ℕ} {to a b : ℕ} → Spanned f xs ys to a → Spanned (λ t. f (a + t)) ys zs (to + a) b → Spanned f xs zs to (a + b)
+span-then f {xs} {ys} {zs} {to} {a} {b} u v = record {
+  long = v .long ∙ u .long;
+  at = λ t h. put t h (decLt t a);
+  rest = λ i h. v .rest i (⊎-elim (λ l. inl (omega arith)) (λ l. inr (omega arith)) h) ∙ u .rest i (⊎-elim (λ l. inl l) (λ l. inr (omega arith)) h);
+}
+  where
+    put : (t : ℕ) → t < a + b → Dec (t < a) → getD zs (to + t) 0 ≡ f t
+    put t h (yes k) = v .rest (to + t) (inl (omega arith)) ∙ u .at t k
+    put t h (no k) =
+        let e : to + t ≡ to + a + (t - a) = omega arith in
+        let q : a + (t - a) ≡ t = omega arith in
+        ap (λ (i : ℕ). getD zs i 0) e ∙ v .at (t - a) (omega arith) ∙ ap f q
