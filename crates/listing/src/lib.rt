@@ -1,22 +1,20 @@
-// Where the symbols of a chain start, in a list. The list of every chain is made from one table: what does not wrap lies the same in every chain.
-ghost use Prim.Native.Nat.{ℕ, _-_, _*_, _≤_, _<_};
+// Where the symbols of a chain start, in a list. The list of every chain is one table moved: what does not wrap lies the same, the rest a stripe's length off.
+ghost use Prim.Native.Nat.{_+_, _≤_, _<_};
 ghost use mathlib.Core.Path.{_≡_};
-ghost use lib.ListN.{length, getD};
+ghost use lib.ListN.{length};
 ghost use Rattle.shape.specs.Good.{Good};
-ghost use Rattle.walking.specs.Walk.{Ways};
-ghost use Rattle.listing.specs.Places.{Listed, Laid, Table, Moved, Straight};
+ghost use Rattle.listing.specs.Places.{Listed, Laid, Table, Moved, Straight, Further};
 use shape::Shape;
 
-// Notes in the list where the two symbols of each height from start to end - 1 start, in the columns that `run` goes through; what stands behind them stays.
-fn note(list: &mut [u16; 32], sh: Shape, l: usize, r: usize, base: usize, start: usize, end: usize)
-    requires { ⌜ (Good sh) × ((p : ℕ) × Ways sh p l r base start end) × (length (now list) ≡ 32) ⌝ }
-    ensures { λ _. ⌜ ((p : ℕ) → Ways sh p l r base start end → Listed sh p start (now (list .entry)) → Listed sh p end (now (list .exit))) × (length (now (list .exit)) ≡ 32) × ((i : ℕ) → 2 * end - 2 ≤ i → getD (now (list .exit)) i 0 ≡ getD (now (list .entry)) i 0) ⌝ }
+// Notes in the list where the two symbols of each height of chain p start; whoever calls it has a chain of a good shape that does not wrap.
+fn note(list: &mut [u16; 32], sh: Shape, p: usize)
+    requires { ⌜ (Good sh) × (sh .m ≤ p + 1) × (p + sh .m ≤ sh .n) × (length (now list) ≡ 32) ⌝ }
+    ensures { λ _. ⌜ Listed sh p (sh .m) (now (list .exit)) ⌝ }
 {
-    let mut d = start;
-    while d < end {
-        let further = d - base;
-        list[2 * d - 2] = sh.place(d, l - further) as u16;
-        list[2 * d - 1] = sh.place(d, r + further) as u16;
+    let mut d = 1;
+    while d < sh.m {
+        list[2 * d - 2] = sh.place(d, p - d) as u16;
+        list[2 * d - 1] = sh.place(d, p + d) as u16;
         d += 1;
     }
 }
@@ -28,7 +26,7 @@ pub fn table(sh: Shape) -> [u16; 32]
 {
     let top = sh.m - 1;
     let mut list = [0u16; 32];
-    note(&mut list, sh, top, top, 0, 1, sh.m);
+    note(&mut list, sh, top);
     list[2 * top] = sh.place(0, top) as u16;
     list
 }
@@ -47,7 +45,7 @@ fn moved(list: &[u16; 32], by: u16) -> [u16; 32]
     to
 }
 
-// The list of chain p as far as it does not wrap; whoever calls it has a chain of a good shape and that shape's table.
+// The list of chain p, but for what wraps, which lies a whole stripe off; whoever calls it has a chain of a good shape and that shape's table.
 pub fn shifted(list: &[u16; 32], sh: Shape, p: usize) -> [u16; 32]
     requires { ⌜ (Good sh) × (p < sh .n) × (Table sh (now list)) ⌝ }
     ensures { λ r. ⌜ Straight sh p r ⌝ }
@@ -58,7 +56,19 @@ pub fn shifted(list: &[u16; 32], sh: Shape, p: usize) -> [u16; 32]
     moved(list, std::num::wrapping_sub_u16(here, there))
 }
 
-// Makes the list of chain p from what does not wrap of it; whoever calls it has a chain of a good shape.
+// Moves every second entry from start on, below end, by the same number, modulo 65,536.
+fn further(list: &mut [u16; 32], start: usize, end: usize, by: u16)
+    requires { ⌜ (length (now list) ≡ 32) × (start ≤ end) × (end ≤ 32) ⌝ }
+    ensures { λ _. ⌜ Further (now (list .entry)) start end by (now (list .exit)) ⌝ }
+{
+    let mut i = start;
+    while i < end {
+        list[i] = std::num::wrapping_add_u16(list[i], by);
+        i += 2;
+    }
+}
+
+// Makes the list of chain p from one in which what wraps lies a whole stripe off; whoever calls it has a chain of a good shape.
 pub fn wrap(list: &mut [u16; 32], sh: Shape, p: usize)
     requires { ⌜ (Good sh) × (p < sh .n) × (Straight sh p (now list)) ⌝ }
     ensures { λ _. ⌜ Laid sh p (now (list .exit)) ⌝ }
@@ -66,11 +76,11 @@ pub fn wrap(list: &mut [u16; 32], sh: Shape, p: usize)
     let m = sh.m;
     let n = sh.n;
     if p + 1 < m {
-        note(list, sh, n - 1, p + p + 1, p + 1, p + 1, m);
+        further(list, 2 * p, 2 * m - 2, (sh.stripe_length() % 65536) as u16);
     } else {
         if n < p + m {
-            let past = n - p;
-            note(list, sh, p - past, 0, past, past, m);
+            let back = std::num::wrapping_sub_u16(0, (sh.stripe_length() % 65536) as u16);
+            further(list, 2 * (n - p) - 1, 2 * m - 2, back);
         }
     }
 }

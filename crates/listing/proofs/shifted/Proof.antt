@@ -6,8 +6,7 @@ use borrow.Author.Needs.{needs}
 use Rattle.shape.specs.declared.Shape.{Shape}
 use Rattle.shape.specs.Good.{Good}
 use Rattle.shape.specs.Place.{column-length}
-use Rattle.shape.proofs.GoodLaws.{good-room}
-use Rattle.listing.proofs.PlacesLaws.{start-fits, straight-of}
+use Rattle.listing.proofs.PlacesLaws.{top-in, start-fits, straight-of}
 use Rattle.listing.proofs.shifted.Statement.{statement}
 use Rattle.listing.proofs.shifted.Tie as tie
 
@@ -15,43 +14,30 @@ use Rattle.listing.proofs.shifted.Tie as tie
 starts : (sh : Shape) → Good sh → (c r : ℕ) → c < sh .n → r ≡ column-length sh → c * r < 65536
 starts sh good c r h e = let f : c * r ≡ c * column-length sh = ap (λ (z : ℕ). c * z) e in omega (arith, f, start-fits sh good c h)
 
--- the table's chain is one
-top-in : (sh : Shape) → Good sh → sh .m - 1 < sh .n
-top-in sh good = omega (arith, good .m-fits .0, good-room sh good)
-
--- src/listing.rt:55:9
 column-length-requires : tie.Need-column-length-requires
 column-length-requires c κs = search needs
 
--- src/listing.rt:56:17
 mul-here : tie.Need-mul-here
 mul-here c = let s = c .before in omega (arith, starts (s .args .sh) (s .pre .0) (s .args .p) (c .column-length .result) (s .pre .1) (c .column-length .ensures .is))
 
--- src/listing.rt:56:16
 cast-here : tie.Need-cast-here
 cast-here c = let s = c .before in omega (arith, starts (s .args .sh) (s .pre .0) (s .args .p) (c .column-length .result) (s .pre .1) (c .column-length .ensures .is))
 
--- src/listing.rt:57:19
 sub-there : tie.Need-sub-there
 sub-there c = search needs
 
--- src/listing.rt:57:18
 mul-there : tie.Need-mul-there
 mul-there c = let s = c .before .before in omega (arith, starts (s .args .sh) (s .pre .0) (s .args .sh .m - 1) (c .before .column-length .result) (top-in (s .args .sh) (s .pre .0)) (c .before .column-length .ensures .is))
 
--- src/listing.rt:57:17
 cast-there : tie.Need-cast-there
 cast-there c = let s = c .before .before in omega (arith, starts (s .args .sh) (s .pre .0) (s .args .sh .m - 1) (c .before .column-length .result) (top-in (s .args .sh) (s .pre .0)) (c .before .column-length .ensures .is))
 
--- src/listing.rt:58:17
 wrapping-sub-u16-requires : tie.Need-wrapping-sub-u16-requires
 wrapping-sub-u16-requires c κs = search needs
 
--- src/listing.rt:58:5
 moved-requires : tie.Need-moved-requires
 moved-requires c κs = search needs
 
--- src/listing.rt:51:1
 returns : tie.Need-returns
 returns c =
     let s = c .before .before .before .before in

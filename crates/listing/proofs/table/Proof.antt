@@ -3,45 +3,38 @@ use mathlib.Core.Path.{refl}
 use Prim.Native.Nat.{_-_, _*_}
 use native.Mathlib.Omega.{arith}
 use borrow.Author.Needs.{needs}
-use Rattle.listing.proofs.PlacesLaws.{listed-none, laid-of, table-ways}
+use Rattle.shape.proofs.GoodLaws.{good-room}
+use Rattle.listing.proofs.PlacesLaws.{laid-of}
 use Rattle.listing.proofs.table.Statement.{statement}
 use Rattle.listing.proofs.table.Tie as tie
 
--- src/listing.rt:29:15
 sub-top : tie.Need-sub-top
 sub-top c = search needs
 
--- src/listing.rt:31:5
 note-requires : tie.Need-note-requires
-note-requires c κs = let s = c .before .before in (s .pre, (s .args .sh .m - 1, table-ways _ (s .pre)), refl)
+note-requires c κs = let s = c .before .before in (s .pre, omega arith, omega (arith, good-room _ (s .pre), s .pre .m-fits .0), refl)
 
--- src/listing.rt:32:21
 place-requires : tie.Need-place-requires
 place-requires c κs = search needs
 
--- src/listing.rt:32:21
 cast-list : tie.Need-cast-list
 cast-list c = search needs
 
--- src/listing.rt:32:10
 mul-list : tie.Need-mul-list
 mul-list c = search needs
 
--- src/listing.rt:32:5
 mul-list-2 : tie.Need-mul-list-2
 mul-list-2 c = search needs
 
--- src/listing.rt:32:5
 array-write-list : tie.Need-array-write-list
 array-write-list c = search needs
 
--- src/listing.rt:25:1
 returns : tie.Need-returns
 returns c =
     let s = c .before .before .before .before in
     let sh = s .args .sh in
     laid-of sh (sh .m - 1) (2 * (sh .m - 1)) (c .before .note .last .0) (c .place .result) (s .pre .m-fits .1) (omega (arith, s .pre .m-fits .0))
-    (c .before .note .ensures .0 (sh .m - 1) (table-ways _ (s .pre)) (listed-none sh (sh .m - 1) _ refl)) (c .place .ensures .at)
+    (c .before .note .ensures) (c .place .ensures .at)
 
 pub table-spec : {M : Type 1} → statement M
 table-spec =

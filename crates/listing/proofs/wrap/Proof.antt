@@ -1,74 +1,74 @@
--- `wrap`: the heights beyond the wrap on the left, or on the right, are noted; what stands before them and the parity symbol stay.
-use Prim.Native.Nat.{_-_, _*_}
+-- `wrap`: what lies beyond the wrap on the left, or on the right, is moved by the length of the stripe; the others and the parity symbol stay.
 use native.Mathlib.Omega.{arith}
-use Rattle.listing.proofs.PlacesLaws.{wrap-left, wrap-right, before-left, before-right, laid-kept, laid-straight}
 use borrow.Author.Needs.{needs}
+use Rattle.listing.proofs.PlacesLaws.{laid-straight, laid-left, laid-right}
 use Rattle.listing.proofs.wrap.Statement.{statement}
 use Rattle.listing.proofs.wrap.Tie as tie
 
--- src/listing.rt:68:8
 add-if1 : tie.Need-add-if1
 add-if1 c = search needs
 
--- src/listing.rt:69:24
-sub-note : tie.Need-sub-note
-sub-note c = search needs
+mul-further : tie.Need-mul-further
+mul-further c = search needs
 
--- src/listing.rt:69:31
-add-note : tie.Need-add-note
-add-note c = search needs
+mul-further-2 : tie.Need-mul-further-2
+mul-further-2 c = search needs
 
--- src/listing.rt:69:31
-add-note-2 : tie.Need-add-note-2
-add-note-2 c = search needs
+sub-further : tie.Need-sub-further
+sub-further c = search needs
 
--- src/listing.rt:69:42
-add-note-3 : tie.Need-add-note-3
-add-note-3 c = search needs
+stripe-length-requires : tie.Need-stripe-length-requires
+stripe-length-requires c κs = search needs
 
--- src/listing.rt:69:49
-add-note-4 : tie.Need-add-note-4
-add-note-4 c = search needs
+cast-further : tie.Need-cast-further
+cast-further c = search needs
 
--- src/listing.rt:69:9
-note-requires : tie.Need-note-requires
-note-requires c κs = let s = c .before .before in (s .pre .0, (s .args .p, wrap-left (s .args .sh) (s .pre .0) (s .args .p) (s .pre .1) (omega arith)), s .pre .2 .long)
+further-requires : tie.Need-further-requires
+further-requires c κs = search needs
 
--- src/listing.rt:71:16
 add-if2 : tie.Need-add-if2
 add-if2 c = search needs
 
--- src/listing.rt:72:24
-sub-past : tie.Need-sub-past
-sub-past c = search needs
+stripe-length-requires-2 : tie.Need-stripe-length-requires-2
+stripe-length-requires-2 c κs = search needs
 
--- src/listing.rt:73:28
-sub-note-2 : tie.Need-sub-note-2
-sub-note-2 c = search needs
+cast-wrapping-sub-u16 : tie.Need-cast-wrapping-sub-u16
+cast-wrapping-sub-u16 c = search needs
 
--- src/listing.rt:73:13
-note-requires-2 : tie.Need-note-requires-2
-note-requires-2 c κs = let s = c .before .before .before in (s .pre .0, (s .args .p, wrap-right (s .args .sh) (s .pre .0) (s .args .p) (s .pre .1) (omega arith) (omega arith)), s .pre .2 .long)
+wrapping-sub-u16-requires : tie.Need-wrapping-sub-u16-requires
+wrapping-sub-u16-requires c κs = search needs
 
--- src/listing.rt:62:1
+sub-further-2 : tie.Need-sub-further-2
+sub-further-2 c = search needs
+
+mul-further-3 : tie.Need-mul-further-3
+mul-further-3 c = search needs
+
+sub-further-3 : tie.Need-sub-further-3
+sub-further-3 c = search needs
+
+mul-further-4 : tie.Need-mul-further-4
+mul-further-4 c = search needs
+
+sub-further-4 : tie.Need-sub-further-4
+sub-further-4 c = search needs
+
+further-requires-2 : tie.Need-further-requires-2
+further-requires-2 c κs = search needs
+
 returns : tie.Need-returns
 returns c =
-    let s = c .before .before .before in
-    let a = s .args in
-    let z = c .note .ensures in
-    laid-kept (a .sh) (s .pre .0) (a .p) (s .pre .1) (a .list .now) (s .pre .2) (c .note .last .0)
-    (z .0 (a .p) (wrap-left (a .sh) (s .pre .0) (a .p) (s .pre .1) (omega arith)) (before-left (a .sh) (s .pre .0) (a .p) (s .pre .1) (a .list .now) (s .pre .2) (omega arith))) (z .2 (2 * a .sh .m - 2) (omega arith))
+    let s = c .before .before .before .before in
+    let is = c .before .stripe-length .ensures .is in
+    laid-left (s .args .sh) (s .pre .0) (s .args .p) (s .pre .1) (s .args .list .now) (s .pre .2) _ _ (omega arith) (omega (arith, is)) (c .further .ensures)
 
--- src/listing.rt:62:1
 returns-2 : tie.Need-returns-2
 returns-2 c =
-    let s = c .before .before .before .before in
-    let a = s .args in
-    let z = c .note2 .ensures in
-    laid-kept (a .sh) (s .pre .0) (a .p) (s .pre .1) (a .list .now) (s .pre .2) (c .note2 .last .0)
-    (z .0 (a .p) (wrap-right (a .sh) (s .pre .0) (a .p) (s .pre .1) (omega arith) (omega arith)) (before-right (a .sh) (s .pre .0) (a .p) (s .pre .1) (a .list .now) (s .pre .2) (omega arith) (omega arith))) (z .2 (2 * a .sh .m - 2) (omega arith))
+    let s = c .before .before .before .before .before .before in
+    let is = c .before .before .before .stripe-length2 .ensures .is in
+    laid-right (s .args .sh) (s .pre .0) (s .args .p) (s .pre .1) (s .args .list .now) (s .pre .2) _ _ (omega arith) (omega arith)
+    (omega (arith, is, c .before .before .wrapping-sub-u16 .ensures)) (c .further2 .ensures)
 
--- src/listing.rt:62:1
 returns-3 : tie.Need-returns-3
 returns-3 c =
     let s = c .before .before in
@@ -79,16 +79,22 @@ wrap-spec =
     tie.close
     (tie.spec
     add-if1
-    sub-note
-    add-note
-    add-note-2
-    add-note-3
-    add-note-4
-    note-requires
+    mul-further
+    mul-further-2
+    sub-further
+    stripe-length-requires
+    cast-further
+    further-requires
     add-if2
-    sub-past
-    sub-note-2
-    note-requires-2
+    stripe-length-requires-2
+    cast-wrapping-sub-u16
+    wrapping-sub-u16-requires
+    sub-further-2
+    mul-further-3
+    sub-further-3
+    mul-further-4
+    sub-further-4
+    further-requires-2
     returns
     returns-2
     returns-3)
