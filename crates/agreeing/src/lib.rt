@@ -12,10 +12,10 @@ ghost use Rattle.agreeing.specs.Agreeing.{distance, past, Uses, Holds, P
 use matching::matches;
 use shape::Shape;
 use solving::Gone;
-use solving::above;
-use solving::below;
 use sourcing::sources;
 use standing::all_even;
+use walking::above;
+use walking::below;
 
 // How far it is to walk upward from column a to column b; m, which is too far, if one of them is no column.
 fn apart(sh: Shape, a: usize, b: usize) -> usize
@@ -100,19 +100,15 @@ fn holds<'a>(s: &'a [u8], out: &'a [u8], table: &[u16; 32], x: Gone, p: usize, d
 }
 
 // Whether the chains that are less than `end` up from first hold.
-fn between<'a>(s: &'a [u8], out: &'a [u8], x: Gone, end: usize) -> bool
-    requires { ⌜ (Patchable x (now s) (now out)) × (x .first < x .shape .n) × (end ≤ x .shape .n) × ((e : ℕ) → 1 ≤ e → e < end → ¬ Uses x (right (x .shape .n) (x .first) e)) ⌝ }
+fn between<'a>(s: &'a [u8], out: &'a [u8], table: &[u16; 32], x: Gone, end: usize) -> bool
+    requires { ⌜ (Patchable x (now s) (now out)) × (Table (x .shape) (now table)) × (x .first < x .shape .n) × (end ≤ x .shape .n) × ((e : ℕ) → 1 ≤ e → e < end → ¬ Uses x (right (x .shape .n) (x .first) e)) ⌝ }
     ensures { λ r. ⌜ Tells ((e : ℕ) → 1 ≤ e → e < end → Holds x (now (s .entry)) (now (out .entry)) (right (x .shape .n) (x .first) e)) r ⌝ }
 {
-    if end <= 1 {
-        return true;
-    }
-    let table = listing::table(x.shape);
     let mut p = x.first;
     let mut e = 1;
     while e < end {
         p = above(x.shape.n, p, 1);
-        if !holds(s, out, &table, x, p, e) {
+        if !holds(s, out, table, x, p, e) {
             return false;
         }
         e += 1;
@@ -132,8 +128,8 @@ fn beyond(x: Gone, end: usize) -> usize
 }
 
 // Whether every chain from which no lost symbol is solved holds: those between first and second, or as far up as first's symbols reach, and those beyond.
-pub fn agree<'a>(s: &'a [u8], out: &'a [u8], x: Gone) -> bool
-    requires { ⌜ (Patchable x (now s) (now out)) × (In-order x) ⌝ }
+pub fn agree<'a>(s: &'a [u8], out: &'a [u8], table: &[u16; 32], x: Gone) -> bool
+    requires { ⌜ (Patchable x (now s) (now out)) × (Table (x .shape) (now table)) × (In-order x) ⌝ }
     ensures { λ r. ⌜ Tells (Agreed x (now (s .entry)) (now (out .entry))) r ⌝ }
 {
     let sh = x.shape;
@@ -141,7 +137,7 @@ pub fn agree<'a>(s: &'a [u8], out: &'a [u8], x: Gone) -> bool
         return all_even(sh, s, 0, sh.n);
     }
     let end = apart(sh, x.first, x.second);
-    if !between(s, out, x, end) {
+    if !between(s, out, table, x, end) {
         return false;
     }
     let from = beyond(x, end);

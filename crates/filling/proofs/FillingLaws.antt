@@ -6,46 +6,20 @@ use mathlib.Core.List.{List}
 use Prim.Native.Nat.{ℕ, suc, _+_, _-_, _*_, _/_, _%_, _≤_, _<_}
 use native.Mathlib.Nat.{mod-lt, div-add-mod', mul-le-mul-right}
 use native.Mathlib.Omega.{arith}
-use native.Mathlib.Decide.{decLt, decLe, ℕ-discrete}
+use native.Mathlib.Decide.{decLt, ℕ-discrete}
 use lib.Arith.{digits-mod}
 use lib.ListN.{length, getD}
 use Rattle.xor.specs.Spanned.{Spanned}
-use Rattle.shape.specs.declared.Shape.{Shape}
-use Rattle.shape.specs.Good.{Good}
 use Rattle.shape.specs.Place.{place, byte}
-use Rattle.shape.proofs.GoodLaws.{good-w}
-use Rattle.shape.proofs.PlaceLaws.{place-apart, place-up}
+use Rattle.shape.proofs.PlaceLaws.{place-up}
 use Rattle.shape.proofs.Spans.{place-add, span-in, span-out}
 use Rattle.solving.specs.declared.Gone.{Gone}
 use Rattle.solving.specs.Outer.{base-of, spot, Stores, turned, Ready}
 use Rattle.summing.specs.Sums.{Apart}
+use Rattle.solving.specs.Alone.{Lone, SolvedAlone}
+use Rattle.solving.proofs.AloneLaws.{front, column-fits, symbols-apart}
 use Rattle.solving.proofs.StoresLaws.{OnWay, Stored, stores-keep, stores-bring}
-use Rattle.filling.specs.Filling.{Fillable, Stands, Untouched, StandFrom}
-use Rattle.staging.proofs.StagingLaws.{front, column-fits}
-
--- two symbols of a column do not meet
-symbols-apart : (sh : Shape) → Good sh → (d e : ℕ) → d < sh .m → e < sh .m → d ≢ e → (place sh d 0 0 + sh .w ≤ place sh e 0 0) ⊎ (place sh e 0 0 + sh .w ≤ place sh d 0 0)
-symbols-apart sh good d e hd he ne = at (decLe (a + sh .w) b) (decLe (b + sh .w) a)
-  where
-    a : ℕ
-    a = place sh d 0 0
-
-    b : ℕ
-    b = place sh e 0 0
-
-    -- else one would start inside the other
-    meet : (d e k : ℕ) → d < sh .m → e < sh .m → k < sh .w → place sh d 0 0 + k ≡ place sh e 0 0 → d ≡ e
-    meet d e k hd he hk z =
-        place-apart sh d 0 (0 + k) e 0 0 hd (omega arith) he (good-w sh good) (sym (place-add sh d 0 0 k) ∙ z) .0
-
-    at : Dec (a + sh .w ≤ b) → Dec (b + sh .w ≤ a) → (a + sh .w ≤ b) ⊎ (b + sh .w ≤ a)
-    at (yes l) k = inl l
-    at (no l) (yes k) = inr k
-    at (no l) (no k) = on (decLe a b)
-      where
-        on : Dec (a ≤ b) → (a + sh .w ≤ b) ⊎ (b + sh .w ≤ a)
-        on (yes h) = absurd (ne (meet d e (b - a) hd he (omega arith) (omega arith)))
-        on (no h) = absurd (ne (sym (meet e d (a - b) he hd (omega arith) (omega arith))))
+use Rattle.filling.specs.Filling.{Fillable, Stands, Untouched, StandFrom, ColumnIn}
 
 -- the height whose place the k-th symbol of the way from height d has
 abbrev home : Gone → ℕ → ℕ → ℕ
@@ -182,6 +156,29 @@ module _ (g : Gone) (side : ℕ) (s out : List ℕ) (r : Fillable g side s out) 
         let a : d % (2 * g .walk) < 2 * g .walk = mod-lt d (omega (arith, r .near)) in
         let b = div-add-mod' d (2 * g .walk) in
         absurd (⊎-elim (λ z. omega arith) (λ z. omega arith) e)
+
+  -- ---- a column that asks for nothing
+
+  pub fillable-lone : g .shape .m ≤ g .walk → Lone g side s out
+  fillable-lone far = record {
+    good = r .good;
+    whole = r .whole;
+    side-is = r .side-is;
+    column = r .column;
+    far = far;
+    short = r .short;
+    room = omega (arith, r .own, r .room);
+    small = omega (arith, r .own);
+  }
+
+  pub column-alone : (v : ℕ → ℕ → ℕ → ℕ) (out′ : List ℕ) → SolvedAlone g v side out out′ → ColumnIn g v side out out′
+  unfolding byte
+  column-alone v out′ u = record {
+    front = λ d hd t ht.
+        let z : 0 + t ≡ t = omega arith in
+        ap (λ (i : ℕ). getD out′ i 0) (omega (arith, r .own, place-add (g .shape) d 0 0 t, ap (place (g .shape) d 0) z)) ∙ u .column d hd t ht;
+    rest = λ i lo. u .rest i (inr (omega (arith, r .own)));
+  }
 
 -- a buffer as long
 pub fillable-like : (g : Gone) (side : ℕ) (s out out′ : List ℕ) → length out′ ≡ length out → Fillable g side s out → Fillable g side s out′

@@ -1,6 +1,6 @@
 -- FILLING (document 01, "Column read"): a lost column solved in the room of one column. Definitions only.
 use mathlib.Core.Path.{_≡_}
-use mathlib.Core.Logic.{_≢_}
+use mathlib.Core.Logic.{_≢_, _⊎_}
 use mathlib.Core.List.{List}
 use Prim.Native.Nat.{ℕ, _-_, _*_, _%_, _≤_, _<_}
 use lib.ListN.{length, getD}
@@ -53,3 +53,7 @@ StandFrom g v side from out = (d : ℕ) → d < g .shape .m → from ≤ d % (2 
 pub record ColumnIn (g : Gone) (v : ℕ → ℕ → ℕ → ℕ) (side : ℕ) (out out′ : List ℕ) : Type 0 where
   pub front : (d : ℕ) → d < g .shape .m → Stands g v side d out′
   pub rest : Untouched g out out′
+
+-- r is the lesser of a and b
+abbrev pub Lesser : ℕ → ℕ → ℕ → Type 0
+Lesser a b r = (r ≤ a) × (r ≤ b) × ((r ≡ a) ⊎ (r ≡ b))

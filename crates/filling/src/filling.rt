@@ -6,16 +6,16 @@ ghost use Rattle.answer.specs.Answers.{number, First};
 ghost use Rattle.listing.specs.Places.{Table};
 ghost use Rattle.solving.specs.Outer.{Solved, Stores, Ready};
 ghost use Rattle.filling.specs.Fill.{fill-table, Fill};
-ghost use Rattle.filling.specs.Filling.{SideOf, narrowed, Fillable, ColumnIn};
+ghost use Rattle.filling.specs.Filling.{SideOf, narrowed, Fillable, ColumnIn, Lesser};
 use answer::Answer;
 use rule::Losses;
 use rule::beyond;
 use rule::twice;
 use shape::Shape;
 use solving::Gone;
+use solving::solve_alone;
 use solving::solve_first;
 use solving::solve_second;
-use staging::lesser;
 use staging::read;
 
 // What fill and choose are refused for with an answer buffer of `room` bytes; Done where nothing applies.
@@ -89,16 +89,38 @@ fn solve(s: &[u8], out: &mut [u8], table: &[u16; 32], x: Gone, side: usize, d: u
     }
 }
 
-// Solves a side's whole column. The way from a symbol comes back to its side two walks higher, so the starts are the heights below two walks.
+// The lesser of two numbers.
+fn lesser(a: usize, b: usize) -> usize
+    ensures { λ r. ⌜ Lesser a b r ⌝ }
+{
+    if a < b {
+        return a;
+    }
+    b
+}
+
+// Solves a side's column where it asks for the other's. The way from a symbol comes back to its side two walks higher, so the starts are the heights below two walks.
+fn fill_pair(s: &[u8], out: &mut [u8], table: &[u16; 32], x: Gone, side: usize)
+    requires { ⌜ (Fillable x side (now s) (now out)) × (Table (x .shape) (now table)) ⌝ }
+    ensures { λ _. ⌜ (length (now (out .exit)) ≡ length (now (out .entry))) × ((v : ℕ → ℕ → ℕ → ℕ) → Solved x (now (s .entry)) v → ColumnIn x v side (now (out .entry)) (now (out .exit))) ⌝ }
+{
+    let mut left = lesser(2 * x.walk, x.shape.m);
+    while 0 < left {
+        left -= 1;
+        solve(s, out, table, x, side, left);
+    }
+}
+
+// Solves a side's whole column, alone if the walk is too long for it to ask for the other's.
 fn fill_column(s: &[u8], out: &mut [u8], x: Gone, side: usize)
     requires { ⌜ Fillable x side (now s) (now out) ⌝ }
     ensures { λ _. ⌜ (length (now (out .exit)) ≡ length (now (out .entry))) × ((v : ℕ → ℕ → ℕ → ℕ) → Solved x (now (s .entry)) v → ColumnIn x v side (now (out .entry)) (now (out .exit))) ⌝ }
 {
     let table = listing::table(x.shape);
-    let mut left = lesser(2 * x.walk, x.shape.m);
-    while 0 < left {
-        left -= 1;
-        solve(s, out, &table, x, side, left);
+    if x.walk < x.shape.m {
+        fill_pair(s, out, &table, x, side);
+    } else {
+        solve_alone(s, out, &table, x, side);
     }
 }
 

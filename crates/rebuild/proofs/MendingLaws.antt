@@ -27,6 +27,7 @@ use Rattle.rule.proofs.Solve.{Pair}
 use Rattle.rule.proofs.OuterLaws.{outer-one, outer-some}
 use Rattle.rule.proofs.SolvesLaws.{solves-outer}
 use Rattle.solving.specs.declared.Gone.{Gone}
+use Rattle.listing.specs.Places.{Table}
 use Rattle.solving.specs.Outer.{column-of, chain-of, Solved}
 use Rattle.agreeing.specs.Agreeing.{patched, Uses, Agreed, Patchable, In-order}
 use Rattle.agreeing.proofs.AgreeingLaws.{patched-first, patched-second, patched-else, same-walk, uses?}
@@ -123,6 +124,10 @@ module _ (sh : Shape) (lost : Losses) (s : List ℕ) (room : ℕ) (call : Otherw
 
   pub mend-good : Good (g .shape)
   mend-good = here .shape
+
+  -- the table of the shape is that of what is read
+  pub mend-table : (list : List ℕ) → Table sh list → Table (g .shape) list
+  mend-table list = subst (λ (z : Shape). Table z list) (sym (read .shape-is))
 
   pub mend-led : Led g
   mend-led = read-led g lost r (here .shape) (here .columns) (here .apart)

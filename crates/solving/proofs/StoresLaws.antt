@@ -112,7 +112,7 @@ module _ (g : Gone) (s : List ℕ) (v : ℕ → ℕ → ℕ → ℕ) (sol : Solv
     (p b at : ℕ) (ep : p ≡ chain-of g side d) (ea : at ≡ spot g side d) (out mid out′ : List ℕ)
     (u : Spanned (λ t. besides (g .shape .m) (g .shape .n) (byte (g .shape) s t) p side d side (d + g .walk) ⊕ cond (ltb (d + g .walk) (g .shape .m)) (getD mid (b + t) 0) 0) mid out′ at (g .shape .w)) where
   -- `own` stores the solved symbol, if what it asks for is solved
-  solved-own : (d + g .walk < g .shape .m → (t : ℕ) → t < g .shape .w → getD mid (b + t) 0 ≡ v (1 - side) (d + g .walk) t)
+  pub solved-own : (d + g .walk < g .shape .m → (t : ℕ) → t < g .shape .w → getD mid (b + t) 0 ≡ v (1 - side) (d + g .walk) t)
       → Spanned (v side d) mid out′ (spot g side d) (g .shape .w)
   solved-own asked = span-same (v side d) u ea (λ t l.
       ap₂ _⊕_ (ap (λ (q : ℕ). besides (g .shape .m) (g .shape .n) (byte (g .shape) s t) q side d side (d + g .walk)) ep)

@@ -1,10 +1,11 @@
 // A symbol solved: the sum of the other symbols of its chain, some of which may have been solved before it.
 use shape::Shape;
 
+mod alone;
 mod outer;
 
-pub use outer::above;
-pub use outer::below;
+pub use alone::column_of;
+pub use alone::solve_alone;
 pub use outer::solve_first;
 pub use outer::solve_second;
 

@@ -8,8 +8,6 @@ ghost use Rattle.xor.specs.Xor.{_⊕_};
 ghost use Rattle.xor.specs.Spanned.{Spanned};
 ghost use Rattle.shape.specs.Good.{Good, size};
 ghost use Rattle.shape.specs.Place.{place, byte};
-ghost use Rattle.shape.specs.Placed.{Stepped};
-ghost use Rattle.shape.specs.Step.{left, right};
 ghost use Rattle.listing.specs.Places.{Table};
 ghost use Rattle.sourcing.specs.Sources.{besides};
 ghost use Rattle.solving.specs.Outer.{Solved, Stores, Ready};
@@ -18,32 +16,11 @@ use crate::Gone;
 use shape::Shape;
 use sourcing::sources;
 use summing::sum_symbol;
-
-// The column d to the left of c, modulo n, without a division.
-pub fn below(n: usize, c: usize, d: usize) -> usize
-    requires { ⌜ (c < n) × (d < n) × (n ≤ 64) ⌝ }
-    ensures { λ r. ⌜ Stepped n (left n c d) r ⌝ }
-{
-    if c < d {
-        return c + n - d;
-    }
-    c - d
-}
-
-// The column d to the right of c, modulo n, without a division.
-pub fn above(n: usize, c: usize, d: usize) -> usize
-    requires { ⌜ (c < n) × (d < n) × (n ≤ 64) ⌝ }
-    ensures { λ r. ⌜ Stepped n (right n c d) r ⌝ }
-{
-    let e = c + d;
-    if e < n {
-        return e;
-    }
-    e - n
-}
+use walking::above;
+use walking::below;
 
 // Stores at `at` what chain p gives without its symbols of heights d and h on a side, with the symbol of the buffer at b in the place of the one of height h.
-fn own(
+pub(crate) fn own(
     s: &[u8],
     out: &mut [u8],
     table: &[u16; 32],
@@ -75,9 +52,10 @@ pub fn solve_first(s: &[u8], out: &mut [u8], table: &[u16; 32], x: Gone, d: usiz
     let at = x.one + sh.place(d, 0);
     if h < sh.m {
         solve_second(s, out, table, x, h);
-        own(s, out, table, sh, p, 0, d, h, x.two + sh.place(h, 0), at);
+        let b = x.two + sh.place(h, 0);
+        own(s, out, table, x.shape, p, 0, d, h, b, at);
     } else {
-        own(s, out, table, sh, p, 0, d, h, 0, at);
+        own(s, out, table, x.shape, p, 0, d, h, 0, at);
     }
 }
 
@@ -92,8 +70,9 @@ pub fn solve_second(s: &[u8], out: &mut [u8], table: &[u16; 32], x: Gone, d: usi
     let at = x.two + sh.place(d, 0);
     if h < sh.m {
         solve_first(s, out, table, x, h);
-        own(s, out, table, sh, p, 1, d, h, x.one + sh.place(h, 0), at);
+        let b = x.one + sh.place(h, 0);
+        own(s, out, table, x.shape, p, 1, d, h, b, at);
     } else {
-        own(s, out, table, sh, p, 1, d, h, 0, at);
+        own(s, out, table, x.shape, p, 1, d, h, 0, at);
     }
 }

@@ -1,5 +1,5 @@
 -- Laws of staging: each symbol has its own place in the workspace, so that what is right stays right; a start solves its whole way; all starts solve all.
-use mathlib.Core.Path.{_≡_, refl, sym, ap, _∙_, subst}
+use mathlib.Core.Path.{_≡_, sym, ap, _∙_, subst}
 use mathlib.Core.Logic.{_⊎_, inl, inr, ⊎-elim}
 use mathlib.Core.List.{List}
 use Prim.Native.Nat.{ℕ, zero, suc, _+_, _-_, _*_, _/_, _%_, _≤_, _<_}
@@ -8,29 +8,17 @@ use native.Mathlib.Omega.{arith}
 use native.Mathlib.Decide.{decLt, ℕ-discrete}
 use lib.ListN.{length, getD}
 use Rattle.xor.specs.Spanned.{Spanned}
-use Rattle.shape.specs.declared.Shape.{Shape}
-use Rattle.shape.specs.Good.{Good, most}
+use Rattle.shape.specs.Good.{Good}
 use Rattle.shape.specs.Place.{place, column-length}
-use Rattle.shape.proofs.GoodLaws.{good-m, good-w, good-wide}
-use Rattle.shape.proofs.PlaceLaws.{front-lt, place-apart, place-lt}
+use Rattle.shape.proofs.PlaceLaws.{place-apart}
 use Rattle.shape.proofs.Spans.{place-add}
 use Rattle.solving.specs.declared.Gone.{Gone}
 use Rattle.solving.specs.Outer.{column-of, base-of, spot, Stores, turned, Ready}
 use Rattle.summing.specs.Sums.{Apart}
 use Rattle.solving.proofs.StoresLaws.{stores-keep, stores-bring}
-use Rattle.staging.specs.Staging.{Stageable, Right, Staged, SolvesIf, StagedFrom}
-
--- a symbol ends inside its column
-pub front : (sh : Shape) → Good sh → (d : ℕ) → d < sh .m → place sh d 0 0 + sh .w ≤ column-length sh
-front sh good d hd =
-    let w : 0 < sh .w = good-w sh good in
-    let e : 0 + (sh .w - 1) ≡ sh .w - 1 = omega arith in
-    omega (arith, front-lt sh d (sh .w - 1) hd (omega arith), place-add sh d 0 0 (sh .w - 1) ∙ ap (place sh d 0) e)
-
--- and that inside the largest stripe
-pub column-fits : (sh : Shape) → Good sh → column-length sh ≤ most
-unfolding place
-column-fits sh good = omega (arith, place-lt sh 0 1 0 (good-m sh good) (omega (arith, good-wide sh good, good .m-fits .0)) (good-w sh good), good .all-fits)
+use Rattle.solving.specs.Alone.{Lone, Right}
+use Rattle.solving.proofs.AloneLaws.{front, column-fits}
+use Rattle.staging.specs.Staging.{Stageable, Staged, SolvedIfLost, StagedFrom}
 
 module _ (g : Gone) (good : Good (g .shape)) (e1 : g .one ≡ 0) (e2 : g .two ≡ column-length (g .shape)) where
   base-zero : base-of g 0 ≡ 0
@@ -162,35 +150,27 @@ stageable-stripe g s s′ out e r = record {
 -- ---- all starts solve all
 
 module _ (g : Gone) (v : ℕ → ℕ → ℕ → ℕ) (s out : List ℕ) (r : Stageable g s out) where
-  solves-right : (side d side′ d′ : ℕ) → side ≤ 1 → side′ ≤ 1 → d < g .shape .m → d′ < g .shape .m → (mid out′ : List ℕ)
-      → SolvesIf g v side d mid out′ → Right g v side′ d′ mid → Right g v side′ d′ out′
-  solves-right side d side′ d′ hs hs′ hd hd′ mid out′ u h = at (decLt (column-of g side) (g .shape .n))
-    where
-      at : Dec (column-of g side < g .shape .n) → Right g v side′ d′ out′
-      at (yes z) = stores-right g (r .good) (r .one-is) (r .two-is) v side′ d′ hs′ hd′ hs hd (u .lost z) h
-      at (no z) = subst (λ (o : List ℕ). Right g v side′ d′ o) (sym (u .kept (omega arith))) h
-
-  -- nothing is asked for by a start that is not below the walk and the height
-  pub staged-none : (left : ℕ) → (left ≡ g .walk) ⊎ (left ≡ g .shape .m) → StagedFrom g v left out
-  staged-none left e side d hs hc hd l =
+  -- no height leaves the walk
+  pub staged-none : StagedFrom g v (g .walk) out
+  staged-none side d hs hc hd l =
       let a : d % g .walk < g .walk = mod-lt d (r .near) in
-      let b = div-add-mod' d (g .walk) in
-      absurd (⊎-elim (λ z. omega arith) (λ z. omega arith) e)
+      absurd (omega arith)
 
   pub staged-all : (left : ℕ) → left ≤ 0 → StagedFrom g v left out → Staged g v out
   staged-all left e h side d hs hc hd = h side d hs hc hd (omega arith)
 
-  module _ (mid out′ : List ℕ) (left : ℕ) (hl : left < g .shape .m) (one : SolvesIf g v 0 left out mid) (two : SolvesIf g v 1 left mid out′) where
-    both-right : (side d : ℕ) → side ≤ 1 → d < g .shape .m → Right g v side d out → Right g v side d out′
-    both-right side d hs hd h =
-        solves-right 1 left side d (omega arith) hs hl hd mid out′ two (solves-right 0 left side d (omega arith) hs hl hd out mid one h)
+  module _ (mid out′ : List ℕ) (left : ℕ) (hl : left < g .shape .m) (one : Stores g v 0 left out mid) (two : Stores g v 1 left mid out′) where
+    second-right : (side d : ℕ) → side ≤ 1 → d < g .shape .m → Right g v side d mid → Right g v side d out′
+    second-right side d hs hd = stores-right g (r .good) (r .one-is) (r .two-is) v side d hs hd (omega arith) hl two
 
-    both-way : (i k : ℕ) → i ≤ 1 → column-of g i < g .shape .n → left + k * g .walk < g .shape .m → Right g v (turned k i) (left + k * g .walk) out′
-    both-way zero k hi hc l =
-        solves-right 1 left (turned k 0) (left + k * g .walk) (omega arith) (omega arith) hl l mid out′ two
-        (stores-way g (r .good) (r .one-is) (r .two-is) v (r .near) hi hl (one .lost hc) k l)
-    both-way (suc zero) k hi hc l = stores-way g (r .good) (r .one-is) (r .two-is) v (r .near) hi hl (two .lost hc) k l
-    both-way (suc (suc i)) k hi hc l = absurd (omega arith)
+    both-right : (side d : ℕ) → side ≤ 1 → d < g .shape .m → Right g v side d out → Right g v side d out′
+    both-right side d hs hd h = second-right side d hs hd (stores-right g (r .good) (r .one-is) (r .two-is) v side d hs hd (omega arith) hl one h)
+
+    both-way : (i k : ℕ) → i ≤ 1 → left + k * g .walk < g .shape .m → Right g v (turned k i) (left + k * g .walk) out′
+    both-way zero k hi l =
+        second-right (turned k 0) (left + k * g .walk) (omega arith) l (stores-way g (r .good) (r .one-is) (r .two-is) v (r .near) hi hl one k l)
+    both-way (suc zero) k hi l = stores-way g (r .good) (r .one-is) (r .two-is) v (r .near) hi hl two k l
+    both-way (suc (suc i)) k hi l = absurd (omega arith)
 
     -- the two starts of a height, after those above it
     pub staged-step : (last : ℕ) → last ≤ suc left → StagedFrom g v last out → StagedFrom g v left out′
@@ -199,14 +179,38 @@ module _ (g : Gone) (v : ℕ → ℕ → ℕ → ℕ) (s out : List ℕ) (r : St
         k : ℕ
         k = d / g .walk
 
-        start-lost : (z : ℕ) → z ≡ k → column-of g (turned z side) < g .shape .n
-        start-lost zero e = subst (λ (i : ℕ). column-of g i < g .shape .n) (omega arith) hc
-        start-lost (suc z) e = r .two (omega (arith, div-add-mod' d (g .walk), ap (λ (y : ℕ). y * g .walk) e)) (turned (suc z) side)
-
         at : Dec (left < d % g .walk) → Right g v side d out′
         at (yes h) = both-right side d hs hd (before side d hs hc hd (omega arith))
         at (no h) =
             let e : left + k * g .walk ≡ d = omega (arith, div-add-mod' d (g .walk)) in
             let f : turned k (turned k side) ≡ side = omega arith in
             subst (λ (i : ℕ). Right g v i d out′) f
-            (subst (λ (y : ℕ). Right g v (turned k (turned k side)) y out′) e (both-way (turned k side) k (omega arith) (start-lost k refl) (omega arith)))
+            (subst (λ (y : ℕ). Right g v (turned k (turned k side)) y out′) e (both-way (turned k side) k (omega arith) (omega arith)))
+
+-- ---- columns that ask for nothing
+
+module _ (g : Gone) (s out : List ℕ) (r : Stageable g s out) where
+  pub stageable-lone : g .shape .m ≤ g .walk → (side : ℕ) → side ≤ 1 → column-of g side < g .shape .n → Lone g side s out
+  stageable-lone far side hs hc =
+      let b = base-fits g (r .good) (r .one-is) (r .two-is) side hs in
+      record {
+        good = r .good;
+        whole = r .whole;
+        side-is = hs;
+        column = hc;
+        far = far;
+        short = r .short;
+        room = omega (arith, b, r .room);
+        small = omega (arith, b, column-fits (g .shape) (r .good));
+      }
+
+  -- first's column stays when second's is solved behind it
+  pub staged-alone : (v : ℕ → ℕ → ℕ → ℕ) (mid out′ : List ℕ) → SolvedIfLost g v 0 out mid → SolvedIfLost g v 1 mid out′ → Staged g v out′
+  staged-alone v mid out′ one two zero d hs hc hd t ht = at (decLt (column-of g 1) (g .shape .n)) ∙ one .lost hc .column d hd t ht
+    where
+      at : Dec (column-of g 1 < g .shape .n) → getD out′ (spot g 0 d + t) 0 ≡ getD mid (spot g 0 d + t) 0
+      at (yes z) =
+          two .lost z .rest (spot g 0 d + t) (inl (omega (arith, front (g .shape) (r .good) d hd, base-zero g (r .good) (r .one-is) (r .two-is), base-one g (r .good) (r .one-is) (r .two-is))))
+      at (no z) = ap (λ (o : List ℕ). getD o (spot g 0 d + t) 0) (two .kept (omega arith))
+  staged-alone v mid out′ one two (suc zero) d hs hc hd t ht = two .lost hc .column d hd t ht
+  staged-alone v mid out′ one two (suc (suc i)) d hs hc hd t ht = absurd (omega arith)

@@ -1,13 +1,13 @@
 -- STAGING (document 01): the lost columns solved in the workspace, first's at its start and second's behind it. Definitions only.
 use mathlib.Core.Path.{_≡_}
-use mathlib.Core.Logic.{_⊎_}
 use mathlib.Core.List.{List}
-use Prim.Native.Nat.{ℕ, _+_, _*_, _%_, _≤_, _<_}
-use lib.ListN.{length, getD}
+use Prim.Native.Nat.{ℕ, _*_, _%_, _≤_, _<_}
+use lib.ListN.{length}
 use Rattle.shape.specs.Good.{Good, size}
 use Rattle.shape.specs.Place.{column-length}
 use Rattle.solving.specs.declared.Gone.{Gone}
-use Rattle.solving.specs.Outer.{column-of, spot, Stores}
+use Rattle.solving.specs.Outer.{column-of}
+use Rattle.solving.specs.Alone.{Right, SolvedAlone}
 
 -- the lost columns g of the stripe s can be staged in `out`: where something is asked for there are two of them
 pub record Stageable (g : Gone) (s out : List ℕ) : Type 0 where
@@ -20,22 +20,15 @@ pub record Stageable (g : Gone) (s out : List ℕ) : Type 0 where
   pub two-is : g .two ≡ column-length (g .shape)
   pub room : 2 * column-length (g .shape) ≤ length out
 
--- a side's symbol of height d is in the buffer as v has it; and so are all of the columns that are lost
-abbrev pub Right : Gone → (ℕ → ℕ → ℕ → ℕ) → ℕ → ℕ → List ℕ → Type 0
-Right g v side d out = (t : ℕ) → t < g .shape .w → getD out (spot g side d + t) 0 ≡ v side d t
-
+-- every symbol of the columns that are lost is in the buffer as v has it
 abbrev pub Staged : Gone → (ℕ → ℕ → ℕ → ℕ) → List ℕ → Type 0
 Staged g v out = (side d : ℕ) → side ≤ 1 → column-of g side < g .shape .n → d < g .shape .m → Right g v side d out
 
--- a side's symbol of height d is solved if its column is lost, and else nothing is done
-pub record SolvesIf (g : Gone) (v : ℕ → ℕ → ℕ → ℕ) (side d : ℕ) (out out′ : List ℕ) : Type 0 where
-  pub lost : column-of g side < g .shape .n → Stores g v side d out out′
+-- a side's column is solved alone if it is lost, and else nothing is done
+pub record SolvedIfLost (g : Gone) (v : ℕ → ℕ → ℕ → ℕ) (side : ℕ) (out out′ : List ℕ) : Type 0 where
+  pub lost : column-of g side < g .shape .n → SolvedAlone g v side out out′
   pub kept : g .shape .n ≤ column-of g side → out′ ≡ out
 
 -- the symbols are staged whose height leaves at least `from` when divided by the walk
 abbrev pub StagedFrom : Gone → (ℕ → ℕ → ℕ → ℕ) → ℕ → List ℕ → Type 0
 StagedFrom g v from out = (side d : ℕ) → side ≤ 1 → column-of g side < g .shape .n → d < g .shape .m → from ≤ d % g .walk → Right g v side d out
-
--- r is the lesser of a and b
-abbrev pub Lesser : ℕ → ℕ → ℕ → Type 0
-Lesser a b r = (r ≤ a) × (r ≤ b) × ((r ≡ a) ⊎ (r ≡ b))

@@ -3,5 +3,4 @@ mod reading;
 mod staging;
 
 pub use reading::read;
-pub use staging::lesser;
 pub use staging::stage;

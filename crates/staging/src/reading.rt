@@ -11,7 +11,7 @@ ghost use Rattle.staging.specs.Reading.{Read};
 use rule::Losses;
 use shape::Shape;
 use solving::Gone;
-use solving::below;
+use walking::below;
 
 // How far it is to walk upward, modulo n, from column a to column b.
 fn upward(n: usize, a: usize, b: usize) -> usize

@@ -10,8 +10,8 @@ ghost use Rattle.matching.specs.Matching.{Found};
 ghost use Rattle.standing.specs.Standing.{others-at, parity-at, Even};
 use chain::others;
 use shape::Shape;
-use solving::above;
 use walking::Walk;
+use walking::above;
 use walking::along;
 
 // Whether the first `front` bytes of the chain that wk walks, a number of half blocks, obey the rule.

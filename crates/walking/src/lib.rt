@@ -1,7 +1,8 @@
-// The walk along a chain: which columns it goes through, without a remainder.
+// The walk along a chain, and the columns left and right of one: which they are, without a division.
 ghost use mathlib.Core.Path.{_≡_};
-ghost use Prim.Native.Nat.{_-_, _<_};
+ghost use Prim.Native.Nat.{_-_, _≤_, _<_};
 ghost use Rattle.shape.specs.Good.{Good};
+ghost use Rattle.shape.specs.Placed.{Stepped};
 ghost use Rattle.shape.specs.Step.{left, right};
 ghost use Rattle.walking.specs.Walk.{Ways, Walks};
 use shape::Shape;
@@ -53,4 +54,27 @@ pub fn along(sh: Shape, p: usize) -> Walk
     }
     let past = n - p;
     walk_through(sh, p, p - past, 0, past, p - top, p + top - n)
+}
+
+// The column d to the left of c, modulo n; whoever calls it has columns of a set of at most 64.
+pub fn below(n: usize, c: usize, d: usize) -> usize
+    requires { ⌜ (c < n) × (d < n) × (n ≤ 64) ⌝ }
+    ensures { λ r. ⌜ Stepped n (left n c d) r ⌝ }
+{
+    if c < d {
+        return c + n - d;
+    }
+    c - d
+}
+
+// The column d to the right of c, modulo n, in the same way.
+pub fn above(n: usize, c: usize, d: usize) -> usize
+    requires { ⌜ (c < n) × (d < n) × (n ≤ 64) ⌝ }
+    ensures { λ r. ⌜ Stepped n (right n c d) r ⌝ }
+{
+    let e = c + d;
+    if e < n {
+        return e;
+    }
+    e - n
 }

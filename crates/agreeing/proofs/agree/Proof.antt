@@ -14,7 +14,7 @@ returns : tie.Need-returns
 returns c =
     let s = c .before .before .before .before .before .before .before in
     let a = s .args in
-    agreed-none (a .x) (a .s .now) (a .out .now) (s .pre .0) (s .pre .1) (omega arith) _ (c .all-even .ensures)
+    agreed-none (a .x) (a .s .now) (a .out .now) (s .pre .0) (s .pre .2) (omega arith) _ (c .all-even .ensures)
 
 apart-requires : tie.Need-apart-requires
 apart-requires c κs = c .before .before .before .before .before .before .pre .0 .good
@@ -24,29 +24,30 @@ between-requires c κs =
     let s = c .before .before .before .before .before .before .before in
     let x = s .args .x in (
       s .pre .0,
+      s .pre .1,
       omega arith,
-      omega (arith, ends x (s .pre .0 .good) (s .pre .1) (omega arith) _ (c .apart .ensures) .0),
-      between-free x (s .pre .0 .good) (s .pre .1) (omega arith) _ (c .apart .ensures),
+      omega (arith, ends x (s .pre .0 .good) (s .pre .2) (omega arith) _ (c .apart .ensures) .0),
+      between-free x (s .pre .0 .good) (s .pre .2) (omega arith) _ (c .apart .ensures),
     )
 
 returns-2 : tie.Need-returns-2
 returns-2 c =
     let s = c .before .before .before .before .before .before .before .before .before in
     let a = s .args in
-    tells-false (agreed-not (a .x) (s .pre .0 .good) (s .pre .1) (omega arith) _ (c .before .before .apart .ensures) (a .s .now) (a .out .now) (s .pre .0)
+    tells-false (agreed-not (a .x) (s .pre .0 .good) (s .pre .2) (omega arith) _ (c .before .before .apart .ensures) (a .s .now) (a .out .now) (s .pre .0)
     (told-no (c .before .between .ensures) (not-true _ (c .if2 .taken))))
 
 beyond-requires : tie.Need-beyond-requires
 beyond-requires c κs =
     let s = c .before .before .before .before .before .before .before .before .before in
     let good = s .pre .0 .good in
-    (good .m-fits .1, omega (arith, good .n-fits .1, ends (s .args .x) good (s .pre .1) (omega arith) _ (c .before .before .apart .ensures) .0))
+    (good .m-fits .1, omega (arith, good .n-fits .1, ends (s .args .x) good (s .pre .2) (omega arith) _ (c .before .before .apart .ensures) .0))
 
 above-requires : tie.Need-above-requires
 above-requires c κs =
     let s = c .before .before .before .before .before .before .before .before .before .before in
     let good = s .pre .0 .good in
-    (omega arith, omega (arith, c .beyond .ensures, good .m-fits .0, ends (s .args .x) good (s .pre .1) (omega arith) _ (c .before .before .before .apart .ensures) .1), good .n-fits .1)
+    (omega arith, omega (arith, c .beyond .ensures, good .m-fits .0, ends (s .args .x) good (s .pre .2) (omega arith) _ (c .before .before .before .apart .ensures) .1), good .n-fits .1)
 
 add-all-even : tie.Need-add-all-even
 add-all-even c = search needs
@@ -57,7 +58,7 @@ sub-all-even c = search needs
 sub-all-even-2 : tie.Need-sub-all-even-2
 sub-all-even-2 c =
     let s = c .before .before .before .before .before .before .before .before .before .before .before .before .before in
-    omega (arith, c .before .before .before .beyond .ensures, ends (s .args .x) (s .pre .0 .good) (s .pre .1) (omega arith) _ (c .before .before .before .before .before .before .apart .ensures) .1)
+    omega (arith, c .before .before .before .beyond .ensures, ends (s .args .x) (s .pre .0 .good) (s .pre .2) (omega arith) _ (c .before .before .before .before .before .before .apart .ensures) .1)
 
 all-even-requires-2 : tie.Need-all-even-requires-2
 all-even-requires-2 c κs =
@@ -68,7 +69,7 @@ returns-3 : tie.Need-returns-3
 returns-3 c =
     let s = c .before .before .before .before .before .before .before .before .before .before .before .before .before .before in
     let a = s .args in
-    agreed-tells (a .x) (s .pre .0 .good) (s .pre .1) (omega arith) _ (c .before .before .before .before .before .before .before .apart .ensures) (a .s .now) (a .out .now) (s .pre .0) _ _
+    agreed-tells (a .x) (s .pre .0 .good) (s .pre .2) (omega arith) _ (c .before .before .before .before .before .before .before .apart .ensures) (a .s .now) (a .out .now) (s .pre .0) _ _
     (c .before .before .before .before .beyond .ensures) (c .before .before .before .above .ensures .is) _
     (c .before .before .before .before .before .before .between .ensures .yes (not-false _ (c .before .before .before .before .before .if2 .left))) (c .all-even2 .ensures)
 

@@ -1,85 +1,41 @@
--- `fill_column`. The invariant: the symbols stand whose start is not below `left`, and nothing beyond the column is touched. The measure: the starts to go.
-use mathlib.Core.Path.{_≡_, refl, _∙_}
-use borrow.Author.Needs.{needs}
-use Prim.Native.Nat.{ℕ, _≤_}
+-- `fill_column`.
 use native.Mathlib.Omega.{arith}
-use lib.ListN.{length}
-use Rattle.solving.specs.Outer.{Solved}
-use Rattle.filling.specs.Filling.{Fillable, Untouched, StandFrom}
-use Rattle.filling.proofs.FillingLaws.{fillable-ready, fillable-like, stand-none, stand-step, stores-rest}
+use borrow.Author.Needs.{needs}
+use Rattle.filling.proofs.FillingLaws.{fillable-lone, column-alone}
 use Rattle.filling.proofs.filling.fill_column.Statement.{statement}
 use Rattle.filling.proofs.filling.fill_column.Tie as tie
 
-abbrev Inv-loop : tie.InvT-loop
-Inv-loop s out₀ x side table left₀ out left =
-    Fillable x side s out
-    × (left ≤ x .shape .m)
-    × (length out ≡ length out₀)
-    × ((v : ℕ → ℕ → ℕ → ℕ) → Solved x s v → StandFrom x v side left out × Untouched x out₀ out)
-
-abbrev μ-loop : tie.MeasureT-loop
-μ-loop s out₀ x side table left₀ out left = left
-
-table-requires : tie.Need-table-requires Inv-loop μ-loop
+table-requires : tie.Need-table-requires
 table-requires c κs = search needs
 
-mul-lesser : tie.Need-mul-lesser Inv-loop μ-loop
-mul-lesser c = omega (arith, c .before .before .before .before .pre .short)
+fill-pair-requires : tie.Need-fill-pair-requires
+fill-pair-requires c κs = search needs
 
-lesser-requires : tie.Need-lesser-requires Inv-loop μ-loop
-lesser-requires c κs = search needs
+solve-alone-requires : tie.Need-solve-alone-requires
+solve-alone-requires c κs = (fillable-lone _ _ _ _ (c .before .before .before .before .before .before .before .pre) (omega arith), c .before .before .before .before .table .ensures)
 
-loop-holds : tie.Need-loop-holds Inv-loop μ-loop
-loop-holds c =
-    let s = c .before .before .before .before .before in
-    let l = c .lesser .ensures in
-    (s .pre, l .1, refl, λ v k. (stand-none _ _ _ _ (s .pre) v _ (l .2), λ i lo. refl))
+same-length : tie.Need-same-length
+same-length c = search needs
 
-sub-left : tie.Need-sub-left Inv-loop μ-loop
-sub-left c = omega arith
+returns : tie.Need-returns
+returns c = search needs
 
-solve-requires : tie.Need-solve-requires Inv-loop μ-loop
-solve-requires c κs =
-    let i = c .before .before .before .loop .inv in
-    (fillable-ready _ _ _ _ (i .0) _ (omega arith), c .before .before .before .before .before .before .table .ensures)
+same-length-2 : tie.Need-same-length-2
+same-length-2 c = search needs
 
-loop-less : tie.Need-loop-less Inv-loop μ-loop
-loop-less c = omega arith
-
-loop-again : tie.Need-loop-again Inv-loop μ-loop
-loop-again c =
-    let f = c .before .before .solve .ensures in
-    let i = c .before .before .before .before .before .before .loop .inv in (
-      fillable-like _ _ _ _ _ (f .0) (i .0),
-      omega arith,
-      f .0 ∙ i .2,
-      λ v k. (
-        stand-step _ _ _ _ (i .0) v _ _ (omega arith) (f .1 v k) _ (omega arith) (i .3 v k .0),
-        λ j lo. stores-rest _ _ _ _ (i .0) v _ _ (omega arith) (f .1 v k) j lo ∙ i .3 v k .1 j lo,
-      ),
-    )
-
-same-length : tie.Need-same-length Inv-loop μ-loop
-same-length c = c .before .loop .inv .2
-
-returns : tie.Need-returns Inv-loop μ-loop
-returns c =
-    let i = c .before .loop .inv in
-    (i .2, λ v k. record { front = λ d hd. i .3 v k .0 d hd (omega arith); rest = i .3 v k .1 })
+returns-2 : tie.Need-returns-2
+returns-2 c =
+    let f = c .before .before .solve-alone .ensures in
+    (f .0, λ v k. column-alone _ _ _ _ (c .before .before .before .before .before .before .before .before .before .before .pre) v _ (f .1 v k))
 
 pub fill-column-spec : {M : Type 1} → statement M
 fill-column-spec =
     tie.close
     (tie.spec
-    Inv-loop
-    μ-loop
     table-requires
-    mul-lesser
-    lesser-requires
-    loop-holds
-    sub-left
-    solve-requires
-    loop-less
-    loop-again
+    fill-pair-requires
+    solve-alone-requires
     same-length
-    returns)
+    returns
+    same-length-2
+    returns-2)

@@ -22,8 +22,11 @@ good c =
     early-good (a .shape) (a .lost) (a .stripe .now) (length (a .work .now))
     (subst (First (early-table (a .shape) (a .lost) (a .stripe .now) (length (a .work .now)))) (number-done _ .1 (c .enum-told .given .1)) (c .before .before .refusal .ensures))
 
+table-requires : tie.Need-table-requires
+table-requires c κs = good (c .before .before) .shape
+
 mend-requires : tie.Need-mend-requires
-mend-requires c κs = good (c .before .before)
+mend-requires c κs = (good (c .before .before .before .before), c .before .table .ensures)
 
 same-length : tie.Need-same-length
 same-length c = search needs
@@ -33,9 +36,9 @@ same-length-2 c = search needs
 
 returns : tie.Need-returns
 returns c =
-    let a = c .before .before .before .before .before .before .before .before .before .before .before .before .before .args in
+    let a = c .before .before .before .before .before .before .before .before .before .before .before .before .before .before .before .args in
     let m = c .before .before .before .before .mend .ensures in
-    (m .0, late-outcome (a .shape) (a .lost) (a .stripe .now) (length (a .work .now)) _ _ (good (c .before .before .before .before .before .before .before)) (m .1))
+    (m .0, late-outcome (a .shape) (a .lost) (a .stripe .now) (length (a .work .now)) _ _ (good (c .before .before .before .before .before .before .before .before .before)) (m .1))
 
 same-length-3 : tie.Need-same-length-3
 same-length-3 c = search needs
@@ -51,6 +54,7 @@ attempt-spec =
     (tie.spec
     refusal-requires
     enum-told
+    table-requires
     mend-requires
     same-length
     same-length-2

@@ -33,12 +33,12 @@ solve-first-solve-second-requires t c κs =
     (omega (arith, s .pre .0, r .near), (ready-next (a .x) 0 (a .d) (a .s .now) (a .out .now) r (omega arith), s .pre .1 .1))
 
 solve-first-place-requires-2 : (t : ℕ) → solve-first-lts.Need-place-requires-2 (solve-first-calls t) (solve-first-at t) solve-first.Post
-solve-first-place-requires-2 t c κs = let s = c .before .before .before .before .before .before .before .before .before .before .before .before .before .before in let r = s .pre .1 .0 in let a = s .args in (r .good, omega arith, omega (arith, r .good .n-fits .0, r .good .m-fits .0))
+solve-first-place-requires-2 t c κs = let s = c .before .before .before .before .before .before .before .before .before .before .before .before .before in let r = s .pre .1 .0 in let a = s .args in (r .good, omega arith, omega (arith, r .good .n-fits .0, r .good .m-fits .0))
 
-solve-first-add-own : (t : ℕ) → solve-first-lts.Need-add-own (solve-first-calls t) (solve-first-at t) solve-first.Post
+solve-first-add-b : (t : ℕ) → solve-first-lts.Need-add-b (solve-first-calls t) (solve-first-at t) solve-first.Post
 unfolding base-of
-solve-first-add-own t c =
-    let s = c .before .before .before .before .before .before .before .before .before .before .before .before .before .before .before .before in let r = s .pre .1 .0 in let a = s .args in
+solve-first-add-b t c =
+    let s = c .before .before .before .before .before .before .before .before .before .before .before .before .before .before .before in let r = s .pre .1 .0 in let a = s .args in
     let n = ready-next (a .x) 0 (a .d) (a .s .now) (a .out .now) r (omega arith) in
     omega (arith, ready-room (a .x) 1 (a .d + a .x .walk) (a .s .now) (a .out .now) n .1, c .before .place2 .ensures .at)
 
@@ -46,7 +46,7 @@ solve-first-own-requires : (t : ℕ) → solve-first-lts.Need-own-requires (solv
 unfolding base-of
 solve-first-own-requires t c κs =
     let s = c .before .before .before .before .before .before .before .before .before .before .before .before .before .before .before .before in let r = s .pre .1 .0 in let a = s .args in
-    let b = c .before .place2 .ensures .at in
+    let b = c .before .before .place2 .ensures .at in
     let p = c .before .before .before .before .before .before .before .before .before .before .place .ensures .at in
     let asked = c .before .before .before .before .before .solve-second .ensures in
     let n = ready-next (a .x) 0 (a .d) (a .s .now) (a .out .now) r (omega arith) in
@@ -80,7 +80,7 @@ solve-first-returns t c =
     let s = c .before .before .before .before .before .before .before .before .before .before .before .before .before .before .before .before .before .before .before in let r = s .pre .1 .0 in let a = s .args in
     let own = c .before .before .own .ensures in
     let asked = c .before .before .before .before .before .before .before .before .solve-second .ensures in
-    let b = c .before .before .before .before .place2 .ensures .at in
+    let b = c .before .before .before .before .before .place2 .ensures .at in
     let p = c .before .before .before .before .before .before .before .before .before .before .before .before .before .place .ensures .at in (
       own .long ∙ asked .0,
       λ v sol.
@@ -123,12 +123,12 @@ solve-second-solve-first-requires t c κs =
     (omega (arith, s .pre .0, r .near), (ready-next (a .x) 1 (a .d) (a .s .now) (a .out .now) r (omega arith), s .pre .1 .1))
 
 solve-second-place-requires-2 : (t : ℕ) → solve-second-lts.Need-place-requires-2 (solve-second-calls t) (solve-second-at t) solve-second.Post
-solve-second-place-requires-2 t c κs = let s = c .before .before .before .before .before .before .before .before .before .before .before .before .before .before in let r = s .pre .1 .0 in let a = s .args in (r .good, omega arith, omega (arith, r .good .n-fits .0, r .good .m-fits .0))
+solve-second-place-requires-2 t c κs = let s = c .before .before .before .before .before .before .before .before .before .before .before .before .before in let r = s .pre .1 .0 in let a = s .args in (r .good, omega arith, omega (arith, r .good .n-fits .0, r .good .m-fits .0))
 
-solve-second-add-own : (t : ℕ) → solve-second-lts.Need-add-own (solve-second-calls t) (solve-second-at t) solve-second.Post
+solve-second-add-b : (t : ℕ) → solve-second-lts.Need-add-b (solve-second-calls t) (solve-second-at t) solve-second.Post
 unfolding base-of
-solve-second-add-own t c =
-    let s = c .before .before .before .before .before .before .before .before .before .before .before .before .before .before .before .before in let r = s .pre .1 .0 in let a = s .args in
+solve-second-add-b t c =
+    let s = c .before .before .before .before .before .before .before .before .before .before .before .before .before .before .before in let r = s .pre .1 .0 in let a = s .args in
     let n = ready-next (a .x) 1 (a .d) (a .s .now) (a .out .now) r (omega arith) in
     omega (arith, ready-room (a .x) 0 (a .d + a .x .walk) (a .s .now) (a .out .now) n .1, c .before .place2 .ensures .at)
 
@@ -136,7 +136,7 @@ solve-second-own-requires : (t : ℕ) → solve-second-lts.Need-own-requires (so
 unfolding base-of
 solve-second-own-requires t c κs =
     let s = c .before .before .before .before .before .before .before .before .before .before .before .before .before .before .before .before in let r = s .pre .1 .0 in let a = s .args in
-    let b = c .before .place2 .ensures .at in
+    let b = c .before .before .place2 .ensures .at in
     let p = c .before .before .before .before .before .before .before .before .before .before .place .ensures .at in
     let asked = c .before .before .before .before .before .solve-first .ensures in
     let n = ready-next (a .x) 1 (a .d) (a .s .now) (a .out .now) r (omega arith) in
@@ -170,7 +170,7 @@ solve-second-returns t c =
     let s = c .before .before .before .before .before .before .before .before .before .before .before .before .before .before .before .before .before .before .before in let r = s .pre .1 .0 in let a = s .args in
     let own = c .before .before .own .ensures in
     let asked = c .before .before .before .before .before .before .before .before .solve-first .ensures in
-    let b = c .before .before .before .before .place2 .ensures .at in
+    let b = c .before .before .before .before .before .place2 .ensures .at in
     let p = c .before .before .before .before .before .before .before .before .before .before .before .before .before .place .ensures .at in (
       own .long ∙ asked .0,
       λ v sol.
@@ -203,7 +203,7 @@ pub +solve-first+solve-second-spec : {M : Type 1} → statement M
     (solve-first-add-at t)
     (solve-first-solve-second-requires t)
     (solve-first-place-requires-2 t)
-    (solve-first-add-own t)
+    (solve-first-add-b t)
     (solve-first-own-requires t)
     (solve-first-own-requires-2 t)
     (solve-first-same-length t)
@@ -219,7 +219,7 @@ pub +solve-first+solve-second-spec : {M : Type 1} → statement M
     (solve-second-add-at t)
     (solve-second-solve-first-requires t)
     (solve-second-place-requires-2 t)
-    (solve-second-add-own t)
+    (solve-second-add-b t)
     (solve-second-own-requires t)
     (solve-second-own-requires-2 t)
     (solve-second-same-length t)

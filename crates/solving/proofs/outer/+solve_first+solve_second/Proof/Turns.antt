@@ -9,8 +9,8 @@ use Rattle.solving.proofs.outer.solve_second.Reads as solve-second
 use Rattle.solving.proofs.outer.solve_second.Kinds as solve-second-kinds
 use Rattle.solving.proofs.outer.+solve_first+solve_second.Lts-solve_second as solve-second-lts
 use Rattle.shape.proofs.Shape.place.Reads as place-reads
-use Rattle.solving.proofs.outer.above.Reads as above-reads
-use Rattle.solving.proofs.outer.below.Reads as below-reads
+use Rattle.walking.proofs.above.Reads as above-reads
+use Rattle.walking.proofs.below.Reads as below-reads
 use Rattle.solving.proofs.outer.own.Reads as own-reads
 
 abbrev pub μ-solve-first : Measures 3 solve-first-kinds.ps ℕ

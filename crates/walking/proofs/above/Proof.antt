@@ -2,9 +2,9 @@
 use native.Mathlib.Omega.{arith}
 use borrow.Author.Needs.{needs}
 use Rattle.shape.proofs.StepLaws.{right-lt}
 use Rattle.walking.proofs.WalkLaws.{right-near, right-far}
-use Rattle.solving.proofs.outer.above.Statement.{statement}
-use Rattle.solving.proofs.outer.above.Tie as tie
+use Rattle.walking.proofs.above.Statement.{statement}
+use Rattle.walking.proofs.above.Tie as tie
 
 add-e : tie.Need-add-e
 add-e c = search needs

@@ -2,9 +2,9 @@
 use native.Mathlib.Omega.{arith}
 use borrow.Author.Needs.{needs}
 use Rattle.shape.proofs.StepLaws.{left-lt}
 use Rattle.walking.proofs.WalkLaws.{left-near, left-far}
-use Rattle.solving.proofs.outer.below.Statement.{statement}
-use Rattle.solving.proofs.outer.below.Tie as tie
+use Rattle.walking.proofs.below.Statement.{statement}
+use Rattle.walking.proofs.below.Tie as tie
 
 add-result : tie.Need-add-result
 add-result c = search needs
