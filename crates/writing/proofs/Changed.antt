@@ -1,20 +1,45 @@
 -- What `change` leaves at a parity symbol's place: the change carried.
-use mathlib.Core.Path.{_≡_, sym, ap₂, _∙_}
+use mathlib.Core.Path.{_≡_, refl, sym, ap, ap₂, _∙_}
+use mathlib.Core.Logic.{_⊎_, inl, inr, ⊎-elim}
 use mathlib.Core.List.{List}
-use Prim.Native.Nat.{ℕ, _+_, _<_}
-use lib.ListN.{getD}
+use Prim.Native.Nat.{ℕ, _+_, _-_, _≤_, _<_}
+use native.Mathlib.Omega.{arith}
+use borrow.Rule.Slice.PartAt.{part-to-end}
+use lib.ListN.{length, getD, take, drop, length-drop}
+use lib.Seq.{getD-drop}
 use Rattle.xor.specs.Xor.{_⊕_}
-use Rattle.xor.specs.Spanned.{Spanned}
+use Rattle.xor.specs.Spanned.{Spanned, change-of}
+use Rattle.xor.proofs.Span.{span-same, span-then}
 use Rattle.shape.specs.declared.Shape.{Shape}
 use Rattle.shape.specs.Place.{place}
 use Rattle.storing.proofs.Symbols.{byte-add, symbol-new, symbol-rest}
 use Rattle.writing.specs.Carried.{Carried}
 
+module _ (s x : List ℕ) (at from len : ℕ) (apart : (at + len ≤ from) ⊎ (from + len ≤ at)) where
+  -- what is changed up to `done` leaves the bytes beyond it as they were
+  pub change-on : (s₁ : List ℕ) (done : ℕ) → Spanned (change-of s at from x) s s₁ at done → (t v : ℕ) → done + t < len
+      → getD s₁ (at + done + t) 0 ⊕ (getD s₁ (from + done + t) 0 ⊕ v) ≡ getD s (at + (done + t)) 0 ⊕ (getD s (from + (done + t)) 0 ⊕ v)
+  change-on s₁ done u t v h =
+      let a : at + done + t ≡ at + (done + t) = omega arith in
+      let f : from + done + t ≡ from + (done + t) = omega arith in
+      ap₂ (λ (y z : ℕ). y ⊕ (z ⊕ v)) (ap (λ (i : ℕ). getD s₁ i 0) a ∙ u .rest _ (inr (omega arith)))
+      (ap (λ (i : ℕ). getD s₁ i 0) f ∙ u .rest _ (⊎-elim (λ l. inr (omega arith)) (λ l. inl (omega arith)) apart))
+
+  -- the whole blocks, and the rest after them
+  pub change-rest : (s₁ s₂ : List ℕ) (whole : ℕ) → whole ≤ length x → length x ≡ len → Spanned (change-of s at from x) s s₁ at whole
+      → Spanned (change-of s₁ (at + whole) (from + whole) (take (length x - whole) (drop whole x))) s₁ s₂ (at + whole) (length (take (length x - whole) (drop whole x)))
+      → Spanned (change-of s at from x) s s₂ at (length x)
+  change-rest s₁ s₂ whole h all u v =
+      let rest : Spanned (change-of s₁ (at + whole) (from + whole) (drop whole x)) s₁ s₂ (at + whole) (length x - whole) = rw (part-to-end x whole, length-drop whole x) at v in
+      let e : length x ≡ whole + (length x - whole) = omega arith in
+      rw e (span-then (change-of s at from x) u
+      (span-same _ rest refl (λ t l. change-on s₁ whole u t _ (omega arith) ∙ ap (λ (z : ℕ). getD s (at + (whole + t)) 0 ⊕ (getD s (from + (whole + t)) 0 ⊕ z)) (getD-drop whole x t 0))))
+
 module _ (sh : Shape) (s s′ x : List ℕ) (len at : ℕ) (all : len ≡ sh .w) where
   pub carried-changed : (d c p from : ℕ) → 0 < sh .m → at ≡ place sh 0 p 0 → from ≡ place sh d c 0
-      → Spanned (λ t. getD s (at + t) 0 ⊕ (getD s (from + t) 0 ⊕ getD x t 0)) s s′ at len → Carried sh s d c p x s′
+      → Spanned (change-of s at from x) s s′ at len → Carried sh s d c p x s′
   carried-changed d c p from hm e f u =
-      let v : Spanned (λ t. getD s (place sh 0 p 0 + t) 0 ⊕ (getD s (place sh d c 0 + t) 0 ⊕ getD x t 0)) s s′ (place sh 0 p 0) (sh .w) = rw (e, f, all) at u in
+      let v : Spanned (change-of s (place sh 0 p 0) (place sh d c 0) x) s s′ (place sh 0 p 0) (sh .w) = rw (e, f, all) at u in
       record {
         long = v .long;
         parity = λ t ht. symbol-new sh _ s s′ 0 p hm v t ht

@@ -1,7 +1,9 @@
 // The small write: one information symbol replaced, and its change XORed into its two parity symbols.
 ghost use mathlib.Core.Path.{_≡_};
-ghost use Prim.Native.Nat.{_-_, _≤_, _<_};
+ghost use mathlib.Core.Logic.{_⊎_};
+ghost use Prim.Native.Nat.{_+_, _-_, _%_, _≤_, _<_};
 ghost use lib.ListN.{length};
+ghost use Rattle.xor.specs.Spanned.{Spanned, change-of};
 ghost use Rattle.shape.specs.Good.{Good, size};
 ghost use Rattle.writing.specs.Carried.{Carried};
 ghost use Rattle.writing.specs.Write.{Written, SmallWrite};
@@ -10,6 +12,21 @@ use shape::Shape;
 use storing::store;
 use xor::change;
 
+// XORs into the bytes at `at` the difference between those at `from` and the first `whole` of x, a number of whole blocks; `carry` asks for places apart.
+fn change_blocks(s: &mut [u8], at: usize, from: usize, x: &[u8], whole: usize)
+    requires { ⌜ (at + whole ≤ length (now s)) × (from + whole ≤ length (now s)) × (whole ≤ length (now x)) × (whole % 128 ≡ 0) × ((at + whole ≤ from) ⊎ (from + whole ≤ at)) ⌝ }
+    ensures { λ _. ⌜ Spanned (change-of (now (s .entry)) at from (now (x .entry))) (now (s .entry)) (now (s .exit)) at whole ⌝ }
+{
+    let mut t = 0;
+    while t < whole {
+        let mut acc = [0u8; 128];
+        block::both(&mut acc, s, from + t, x, t, 128);
+        block::add(&mut acc, s, at + t, 128);
+        block::put(&acc, s, at + t, 128);
+        t += 128;
+    }
+}
+
 // XORs into the parity symbol of a chain the change that an information symbol is about to take; `replace` asks within a good shape.
 fn carry(shape: Shape, stripe: &mut [u8], height: usize, column: usize, chain: usize, symbol: &[u8])
     requires { ⌜ (Good shape) × (length (now stripe) ≡ size shape) × (1 ≤ height) × (height < shape .m) × (column < shape .n) × (chain < shape .n) × (length (now symbol) ≡ shape .w) ⌝ }
@@ -17,7 +34,12 @@ fn carry(shape: Shape, stripe: &mut [u8], height: usize, column: usize, chain: u
 {
     let parity = shape.place(0, chain);
     let from = shape.place(height, column);
-    change(stripe, parity, from, symbol);
+    let len = symbol.len();
+    let whole = len - len % 128;
+    change_blocks(stripe, parity, from, symbol, whole);
+    if whole < len {
+        change(stripe, parity + whole, from + whole, &symbol[whole..]);
+    }
 }
 
 // Replaces an information symbol and XORs the change into the parity of its two chains; `small_write` has asked for the refusals.

@@ -4,7 +4,7 @@ ghost use mathlib.Core.Path.{_≡_};
 ghost use mathlib.Core.Logic.{_⊎_};
 ghost use Prim.Native.Nat.{ℕ, _+_, _≤_};
 ghost use lib.ListN.{length, getD};
-ghost use Rattle.xor.specs.Spanned.{Spanned};
+ghost use Rattle.xor.specs.Spanned.{Spanned, change-of};
 ghost use Rattle.xor.specs.Xor.{_⊕_};
 
 // Copies all of `from` into `s` from `at` on; the rest of `s` is as it was.
@@ -23,7 +23,7 @@ pub fn copy(from: &[u8], s: &mut [u8], at: usize)
 // XORs into the bytes at `at` the difference between those at `from` and `x`, as many as `x` has; the two places are apart.
 pub fn change(s: &mut [u8], at: usize, from: usize, x: &[u8])
     requires { ⌜ (at + length (now x) ≤ length (now s)) × (from + length (now x) ≤ length (now s)) × ((at + length (now x) ≤ from) ⊎ (from + length (now x) ≤ at)) ⌝ }
-    ensures { λ _. ⌜ Spanned (λ t. getD (now (s .entry)) (at + t) 0 ⊕ (getD (now (s .entry)) (from + t) 0 ⊕ getD (now (x .entry)) t 0)) (now (s .entry)) (now (s .exit)) at (length (now (x .entry))) ⌝ }
+    ensures { λ _. ⌜ Spanned (change-of (now (s .entry)) at from (now (x .entry))) (now (s .entry)) (now (s .exit)) at (length (now (x .entry))) ⌝ }
 {
     let len = x.len();
     let mut t = 0;
