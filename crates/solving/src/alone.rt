@@ -51,18 +51,9 @@ pub fn solve_alone(s: &[u8], out: &mut [u8], table: &[u16; 32], x: Gone, side: u
     let mut d = x.shape.m;
     while 0 < d {
         d -= 1;
+        let p = chain_of(x, side, d);
+        let h = d + x.walk;
         let at = base_of(x, side) + x.shape.place(d, 0);
-        own(
-            s,
-            out,
-            table,
-            x.shape,
-            chain_of(x, side, d),
-            side,
-            d,
-            d + x.walk,
-            0,
-            at,
-        );
+        own(s, out, table, x.shape, p, side, d, h, 0, at);
     }
 }

@@ -27,43 +27,42 @@ loop-holds c = (c .before .before .pre .0, omega arith, refl, λ v k. (λ d lo h
 sub-d : tie.Need-sub-d Inv-loop μ-loop
 sub-d c = omega arith
 
+chain-of-requires : tie.Need-chain-of-requires Inv-loop μ-loop
+chain-of-requires c κs =
+    let r = c .before .loop .inv .0 in
+    (r .good, r .column, omega arith)
+
+add-h : tie.Need-add-h Inv-loop μ-loop
+add-h c =
+    let r = c .before .before .before .loop .inv .0 in
+    omega (arith, r .short, r .good .m-fits .1)
+
 base-of-requires : tie.Need-base-of-requires Inv-loop μ-loop
 base-of-requires c κs = search needs
 
 place-requires : tie.Need-place-requires Inv-loop μ-loop
 place-requires c κs =
-    let r = c .before .before .loop .inv .0 in
+    let r = c .before .before .before .before .loop .inv .0 in
     (r .good, omega arith, omega (arith, r .good .n-fits .0, r .good .m-fits .0))
 
 add-at : tie.Need-add-at Inv-loop μ-loop
 add-at c =
-    let r = c .before .before .before .loop .inv .0 in
-    omega (arith, lone-room _ _ _ _ r (c .before .before .before .loop .d - 1) (omega arith) .1, c .before .base-of .ensures, c .place .ensures .at)
-
-chain-of-requires : tie.Need-chain-of-requires Inv-loop μ-loop
-chain-of-requires c κs =
-    let r = c .before .before .before .before .loop .inv .0 in
-    (r .good, r .column, omega arith)
-
-add-own : tie.Need-add-own Inv-loop μ-loop
-add-own c =
-    let r = c .before .before .before .before .before .before .loop .inv .0 in
-    omega (arith, r .short, r .good .m-fits .1)
+    let l = c .before .before .before .before .before .loop in
+    omega (arith, lone-room _ _ _ _ (l .inv .0) (l .d - 1) (omega arith) .1, c .before .base-of .ensures, c .place .ensures .at)
 
 own-requires : tie.Need-own-requires Inv-loop μ-loop
 own-requires c κs =
-    let s = c .before .before .before .before .before .before .before .before .before in
-    let i = c .before .before .before .before .before .before .loop .inv in
-    let r = i .0 in
-    let room = lone-room _ _ _ _ r (c .before .before .before .before .before .before .loop .d - 1) (omega arith) in (
+    let l = c .before .before .before .before .before .before .loop in
+    let r = l .inv .0 in
+    let room = lone-room _ _ _ _ r (l .d - 1) (omega arith) in (
       r .good,
       r .whole,
-      c .before .chain-of .ensures .below,
+      c .before .before .before .before .chain-of .ensures .below,
       r .side-is,
       omega arith,
       omega (arith, r .far, r .good .m-fits .0),
-      s .pre .1,
-      omega (arith, room .0, c .before .before .before .before .base-of .ensures, c .before .before .before .place .ensures .at),
+      c .before .before .before .before .before .before .before .before .before .pre .1,
+      omega (arith, room .0, c .before .before .base-of .ensures, c .before .place .ensures .at),
       λ z. absurd (omega (arith, r .far)),
     )
 
@@ -72,17 +71,17 @@ loop-less c = omega arith
 
 loop-again : tie.Need-loop-again Inv-loop μ-loop
 loop-again c =
-    let i = c .before .before .before .before .before .before .before .before .before .loop .inv in
+    let l = c .before .before .before .before .before .before .before .before .before .loop in
+    let i = l .inv in
     let r = i .0 in
     let own = c .before .before .own .ensures in
-    let spot = c .before .before .before .before .before .before .before .base-of .ensures in
-    let place = c .before .before .before .before .before .before .place .ensures .at in
-    let chain = c .before .before .before .before .chain-of .ensures .is in (
+    let base = c .before .before .before .before .before .base-of .ensures in
+    let place = c .before .before .before .before .place .ensures .at in (
       lone-like _ _ _ _ r _ (own .long),
       omega arith,
       own .long ∙ i .2,
       λ v k.
-          let u = solved-own _ _ v k _ _ (r .side-is) (r .column) (omega arith) _ _ _ chain (omega (arith, spot, place)) (c .before .before .before .before .before .before .before .before .before .loop .out) _ _ own (λ h. absurd (omega (arith, r .far))) in
+          let u = solved-own _ _ v k _ _ (r .side-is) (r .column) (omega arith) _ _ _ (c .before .before .before .before .before .before .before .chain-of .ensures .is) (omega (arith, base, place)) (l .out) _ _ own (λ h. absurd (omega (arith, r .far))) in
           (right-step _ _ _ _ r v _ (omega arith) _ u _ (omega arith) (i .3 v k .0), λ j o. kept-step _ _ _ _ r v _ (omega arith) _ u j o ∙ i .3 v k .1 j o),
     )
 
@@ -102,11 +101,11 @@ solve-alone-spec =
     μ-loop
     loop-holds
     sub-d
+    chain-of-requires
+    add-h
     base-of-requires
     place-requires
     add-at
-    chain-of-requires
-    add-own
     own-requires
     loop-less
     loop-again
