@@ -168,7 +168,6 @@ module _ (g : Gone) (side : ℕ) (s out : List ℕ) (r : Fillable g side s out) 
     far = far;
     short = r .short;
     room = omega (arith, r .own, r .room);
-    small = omega (arith, r .own);
   }
 
   pub column-alone : (v : ℕ → ℕ → ℕ → ℕ) (out′ : List ℕ) → SolvedAlone g v side out out′ → ColumnIn g v side out out′

@@ -63,10 +63,8 @@ abbrev pub RightFrom : Gone → (ℕ → ℕ → ℕ → ℕ) → ℕ → ℕ �
 RightFrom g v side left out = (d : ℕ) → left ≤ d → d < g .shape .m → Right g v side d out
 
 module _ (g : Gone) (side : ℕ) (s out : List ℕ) (r : Lone g side s out) where
-  pub lone-room : (d : ℕ) → d < g .shape .m → (spot g side d + g .shape .w ≤ length out) × (spot g side d + g .shape .w ≤ 262144)
-  lone-room d hd =
-      let f = front (g .shape) (r .good) d hd in
-      (omega (arith, r .room), omega (arith, r .small, column-fits (g .shape) (r .good)))
+  pub lone-room : (d : ℕ) → d < g .shape .m → spot g side d + g .shape .w ≤ length out
+  lone-room d hd = omega (arith, r .room, front (g .shape) (r .good) d hd)
 
   pub lone-like : (out′ : List ℕ) → length out′ ≡ length out → Lone g side s out′
   lone-like out′ e = record {
@@ -77,7 +75,6 @@ module _ (g : Gone) (side : ℕ) (s out : List ℕ) (r : Lone g side s out) wher
     far = r .far;
     short = r .short;
     room = omega (arith, r .room);
-    small = r .small;
   }
 
   module _ (v : ℕ → ℕ → ℕ → ℕ) (d : ℕ) (hd : d < g .shape .m) (out′ : List ℕ) (u : Spanned (v side d) out out′ (spot g side d) (g .shape .w)) where

@@ -18,7 +18,6 @@ pub record Lone (g : Gone) (side : ℕ) (s out : List ℕ) : Type 0 where
   pub far : g .shape .m ≤ g .walk
   pub short : g .walk ≤ 64
   pub room : base-of g side + column-length (g .shape) ≤ length out
-  pub small : base-of g side ≤ 131072
 
 -- a side's symbol of height d is in the buffer as v has it
 abbrev pub Right : Gone → (ℕ → ℕ → ℕ → ℕ) → ℕ → ℕ → List ℕ → Type 0

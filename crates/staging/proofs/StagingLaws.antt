@@ -201,7 +201,6 @@ module _ (g : Gone) (s out : List ℕ) (r : Stageable g s out) where
         far = far;
         short = r .short;
         room = omega (arith, b, r .room);
-        small = omega (arith, b, column-fits (g .shape) (r .good));
       }
 
   -- first's column stays when second's is solved behind it

@@ -1,5 +1,5 @@
 -- Laws of a symbol stored: what its bytes leave, stored in two parts or at once, and what raw store has done with it.
-use mathlib.Core.Path.{_≡_, refl}
+use mathlib.Core.Path.{_≡_, refl, ap, _∙_}
 use mathlib.Core.List.{List}
 use Prim.Native.Nat.{ℕ, _+_, _-_, _≤_, _<_}
 use native.Mathlib.Omega.{arith}
@@ -14,14 +14,20 @@ use Rattle.storing.specs.Set.{Set}
 use Rattle.storing.specs.Store.{Stored}
 use Rattle.storing.proofs.Symbols.{symbol-new, symbol-rest}
 
--- the bytes below `whole`, and the rest of them right after those, are all of x
-pub span-rest : (x s s₁ s₂ : List ℕ) (at whole : ℕ) → whole ≤ length x → Spanned (λ t. getD x t 0) s s₁ at whole
-    → Spanned (λ t. getD (take (length x - whole) (drop whole x)) t 0) s₁ s₂ (at + whole) (length (take (length x - whole) (drop whole x)))
-    → Spanned (λ t. getD x t 0) s s₂ at (length x)
-span-rest x s s₁ s₂ at whole h u v =
-    let rest : Spanned (λ t. getD (drop whole x) t 0) s₁ s₂ (at + whole) (length x - whole) = rw (part-to-end x whole, length-drop whole x) at v in
-    let e : length x ≡ whole + (length x - whole) = omega arith in
-    rw e (span-then (λ t. getD x t 0) u (span-same (λ t. getD x (whole + t) 0) rest refl (λ t l. getD-drop whole x t 0)))
+module _ (x : List ℕ) (whole : ℕ) (h : whole ≤ length x) where
+  -- what is left of x after `whole` bytes: its length and its bytes
+  pub rest-long : length (take (length x - whole) (drop whole x)) ≡ length x - whole
+  rest-long = ap length (part-to-end x whole) ∙ length-drop whole x
+
+  pub rest-at : (t : ℕ) → getD (take (length x - whole) (drop whole x)) t 0 ≡ getD x (whole + t) 0
+  rest-at t = ap (λ (l : List ℕ). getD l t 0) (part-to-end x whole) ∙ getD-drop whole x t 0
+
+  -- as many bytes as x has, stored in two parts: those below `whole`, and right after them as many as are left of x
+  pub span-rest : (f g : ℕ → ℕ) (s s₁ s₂ : List ℕ) (at : ℕ) → Spanned f s s₁ at whole
+      → Spanned g s₁ s₂ (at + whole) (length (take (length x - whole) (drop whole x))) → ((t : ℕ) → t < length x - whole → g t ≡ f (whole + t)) → Spanned f s s₂ at (length x)
+  span-rest f g s s₁ s₂ at u v same =
+      let e : length x ≡ whole + (length x - whole) = omega arith in
+      rw e (span-then f u (span-same (λ t. f (whole + t)) (rw rest-long at v) refl same))
 
 module _ (sh : Shape) (s s′ x : List ℕ) (len at : ℕ) (all : len ≡ sh .w) where
   -- at the symbol's place

@@ -1,17 +1,15 @@
 -- What `change` leaves at a parity symbol's place: the change carried.
-use mathlib.Core.Path.{_≡_, refl, sym, ap, ap₂, _∙_}
+use mathlib.Core.Path.{_≡_, sym, ap, ap₂, _∙_}
 use mathlib.Core.Logic.{_⊎_, inl, inr, ⊎-elim}
 use mathlib.Core.List.{List}
 use Prim.Native.Nat.{ℕ, _+_, _-_, _≤_, _<_}
 use native.Mathlib.Omega.{arith}
-use borrow.Rule.Slice.PartAt.{part-to-end}
-use lib.ListN.{length, getD, take, drop, length-drop}
-use lib.Seq.{getD-drop}
+use lib.ListN.{length, getD, take, drop}
 use Rattle.xor.specs.Xor.{_⊕_}
 use Rattle.xor.specs.Spanned.{Spanned, change-of}
-use Rattle.xor.proofs.Span.{span-same, span-then}
 use Rattle.shape.specs.declared.Shape.{Shape}
 use Rattle.shape.specs.Place.{place}
+use Rattle.storing.proofs.SetLaws.{span-rest, rest-at}
 use Rattle.storing.proofs.Symbols.{byte-add, symbol-new, symbol-rest}
 use Rattle.writing.specs.Carried.{Carried}
 
@@ -30,10 +28,8 @@ module _ (s x : List ℕ) (at from len : ℕ) (apart : (at + len ≤ from) ⊎ (
       → Spanned (change-of s₁ (at + whole) (from + whole) (take (length x - whole) (drop whole x))) s₁ s₂ (at + whole) (length (take (length x - whole) (drop whole x)))
       → Spanned (change-of s at from x) s s₂ at (length x)
   change-rest s₁ s₂ whole h all u v =
-      let rest : Spanned (change-of s₁ (at + whole) (from + whole) (drop whole x)) s₁ s₂ (at + whole) (length x - whole) = rw (part-to-end x whole, length-drop whole x) at v in
-      let e : length x ≡ whole + (length x - whole) = omega arith in
-      rw e (span-then (change-of s at from x) u
-      (span-same _ rest refl (λ t l. change-on s₁ whole u t _ (omega arith) ∙ ap (λ (z : ℕ). getD s (at + (whole + t)) 0 ⊕ (getD s (from + (whole + t)) 0 ⊕ z)) (getD-drop whole x t 0))))
+      span-rest x whole h (change-of s at from x) _ s s₁ s₂ at u v (λ t l.
+      change-on s₁ whole u t _ (omega arith) ∙ ap (λ (z : ℕ). getD s (at + (whole + t)) 0 ⊕ (getD s (from + (whole + t)) 0 ⊕ z)) (rest-at x whole h t))
 
 module _ (sh : Shape) (s s′ x : List ℕ) (len at : ℕ) (all : len ≡ sh .w) where
   pub carried-changed : (d c p from : ℕ) → 0 < sh .m → at ≡ place sh 0 p 0 → from ≡ place sh d c 0

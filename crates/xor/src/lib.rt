@@ -5,7 +5,6 @@ ghost use mathlib.Core.Logic.{_⊎_};
 ghost use Prim.Native.Nat.{ℕ, _+_, _≤_};
 ghost use lib.ListN.{length, getD};
 ghost use Rattle.xor.specs.Spanned.{Spanned, change-of};
-ghost use Rattle.xor.specs.Xor.{_⊕_};
 
 // Copies all of `from` into `s` from `at` on; the rest of `s` is as it was.
 pub fn copy(from: &[u8], s: &mut [u8], at: usize)

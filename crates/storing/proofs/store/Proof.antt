@@ -1,7 +1,9 @@
 -- `store`: the whole blocks, then the rest after them, go to the symbol's place, which ends inside the stripe; no other symbol has a byte there.
 use native.Mathlib.Omega.{arith}
 use borrow.Author.Needs.{needs}
-use Rattle.storing.proofs.SetLaws.{span-rest, set-copied}
+use Prim.Native.Nat.{_-_, _%_}
+use lib.ListN.{length, getD}
+use Rattle.storing.proofs.SetLaws.{span-rest, rest-at, set-copied}
 use Rattle.storing.proofs.store.Statement.{statement}
 use Rattle.storing.proofs.store.Tie as tie
 
@@ -37,7 +39,9 @@ returns c =
     let blocks = c .before .before .before .before .before .before .before .before in
     let placed = blocks .before .before in
     let start = placed .before .before .before in
-    let u = span-rest (start .args .symbol .now) _ _ _ _ _ (omega arith) (blocks .store-blocks .ensures) (c .before .before .copy .ensures) in
+    let x = start .args .symbol .now in
+    let whole = length x - length x % 128 in
+    let u = span-rest x whole (omega arith) (λ t. getD x t 0) _ _ _ _ _ (blocks .store-blocks .ensures) (c .before .before .copy .ensures) (λ t l. rest-at x whole (omega arith) t) in
     set-copied _ _ _ _ _ _ (start .pre .4) _ _ (start .pre .2) (placed .place .ensures .at) u
 
 same-length-2 : tie.Need-same-length-2

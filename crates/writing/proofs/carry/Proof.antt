@@ -1,12 +1,12 @@
 -- `carry`: the change goes into the parity symbol, which has height 0, and so is apart from the symbol that is about to change.
-use mathlib.Core.Path.{_≡_, refl, ap, _∙_}
+use mathlib.Core.Path.{refl}
 use mathlib.Core.Logic.{_⊎_, inl, inr, ⊎-elim}
 use Prim.Native.Nat.{_+_, _-_, _%_, _≤_}
 use native.Mathlib.Omega.{arith}
 use borrow.Author.Needs.{needs}
-use borrow.Rule.Slice.PartAt.{part-to-end}
-use lib.ListN.{length, take, drop, length-drop}
+use lib.ListN.{length}
 use Rattle.shape.proofs.GoodLaws.{good-m, good-w}
+use Rattle.storing.proofs.SetLaws.{rest-long}
 use Rattle.storing.proofs.Symbols.{symbol-apart}
 use Rattle.writing.proofs.Changed.{change-rest, carried-changed}
 use Rattle.writing.proofs.carry.Statement.{statement}
@@ -53,7 +53,7 @@ change-requires : tie.Need-change-requires
 change-requires c κs =
     let x = c .before .before .before .before .before .before .before .before .before .before .before .args .symbol .now in
     let whole = length x - length x % 128 in
-    let rest : length (take (length x - whole) (drop whole x)) ≡ length x - whole = ap length (part-to-end x whole) ∙ length-drop whole x in
+    let rest = rest-long x whole (omega arith) in
     let long = c .before .before .before .before .before .change-blocks .ensures .long in
     (omega (arith, rest, long), omega (arith, rest, long), ⊎-elim (λ l. inl (omega (arith, rest))) (λ l. inr (omega (arith, rest))) (apart (c .before .before .before .before .before .before .before)))
 

@@ -48,7 +48,7 @@ place-requires c κs =
 add-at : tie.Need-add-at Inv-loop μ-loop
 add-at c =
     let l = c .before .before .before .before .before .loop in
-    omega (arith, lone-room _ _ _ _ (l .inv .0) (l .d - 1) (omega arith) .1, c .before .base-of .ensures, c .place .ensures .at)
+    omega (arith, lone-room _ _ _ _ (l .inv .0) (l .d - 1) (omega arith), c .before .base-of .ensures, c .place .ensures .at)
 
 own-requires : tie.Need-own-requires Inv-loop μ-loop
 own-requires c κs =
@@ -62,7 +62,7 @@ own-requires c κs =
       omega arith,
       omega (arith, r .far, r .good .m-fits .0),
       c .before .before .before .before .before .before .before .before .before .pre .1,
-      omega (arith, room .0, c .before .before .base-of .ensures, c .before .place .ensures .at),
+      omega (arith, room, c .before .before .base-of .ensures, c .before .place .ensures .at),
       λ z. absurd (omega (arith, r .far)),
     )
 
