@@ -1,4 +1,6 @@
 // Whether the survivors agree: each chain from which no lost symbol is solved, tested with the lost columns in place.
+#![tactic(auto)]
+
 ghost use Rattle.std.specs.Prelude.{◌≡◌, cond, ℕ, ◌+◌, ◌≤◌, ◌<◌, ltb};
 ghost use Rattle.xor.specs.Tells.{Tells};
 ghost use Rattle.shape.specs.Good.{Good};

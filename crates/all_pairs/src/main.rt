@@ -1,5 +1,7 @@
 // Every pair of columns lost and rebuilt, for three codes with three lengths of symbol; and every single column, and none.
 // One line a shape, with what was counted; each run starts from a stripe with other bytes in the lost columns and a workspace full of old ones.
+#![tactic(auto)]
+
 ghost use Rattle.std.specs.Prelude.{◌≡◌, length};
 ghost use Rattle.shape.specs.Good.{Good, size};
 

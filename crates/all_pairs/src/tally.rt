@@ -3,7 +3,7 @@ ghost use Rattle.std.specs.Prelude.{◌≡◌, ◌+◌, ◌≤◌, ◌<◌};
 ghost use Rattle.all_pairs.specs.Tallies.{Sane, runs_most};
 
 // How many runs there were; how many answered the number, left the stripe and left the workspace as they should.
-#[derive(Drop)]
+#[derive(Clone, Copy)]
 pub(crate) struct Tally {
     pub runs: u64,
     pub answered: u64,

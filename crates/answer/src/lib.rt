@@ -1,9 +1,11 @@
 // The answers of every call with their numbers.
+#![tactic(auto)]
+
 ghost use Rattle.std.specs.Prelude.{◌≡◌};
 ghost use Rattle.answer.specs.Answers.{number};
 
 // The answer of a call: done, or why it was refused; in the order of the numbers 0 to 14.
-#[derive(Drop)]
+#[derive(Clone, Copy)]
 pub enum Answer {
     // The call was done.
     Done,
@@ -39,6 +41,7 @@ pub enum Answer {
 
 impl Answer {
     // The number of the answer.
+    #[tactic(auto, unfolding(crate::specs::Answers::number))]
     pub fn number(self) -> usize
         ensures { result ≡ number self }
     {

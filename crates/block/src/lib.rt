@@ -1,5 +1,7 @@
 // A block: up to 128 bytes that are worked on at a time, bytes of a slice or sums of them. These functions make it and store it.
 // The length of a block stays 128; the calls look at its first len bytes.
+#![tactic(auto)]
+
 ghost use Rattle.std.specs.Prelude.{◌≡◌, ◌+◌, ◌≤◌, length, get_or};
 ghost use Rattle.xor.specs.Xor.{◌⊕◌};
 ghost use Rattle.xor.specs.Spanned.{Spanned};

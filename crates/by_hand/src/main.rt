@@ -1,5 +1,7 @@
 // The small stripes by hand, P5 to P10 of the rules, through the public calls.
 // Each check follows from the contracts: it is proved, and the run shows what a person would work out on paper.
+#![tactic(auto)]
+
 ghost use Rattle.std.specs.Prelude.{◌≡◌};
 ghost use Rattle.locating.specs.declared.Damage.TheVariants.{Column, Several};
 ghost use Rattle.xor.specs.Tells.{Tells};

@@ -1,5 +1,7 @@
 // Along a chain: the XOR of its symbols, a block at a time and in registers.
 // Every call that computes a parity goes through `others` or `difference`; nothing else walks a chain.
+#![tactic(auto)]
+
 ghost use Rattle.std.specs.Prelude.{ℕ, ◌+◌, ◌<◌, ◌≡◌, length};
 ghost use Rattle.block.specs.Block.{longest, Block};
 ghost use Rattle.shape.specs.Place.{byte};

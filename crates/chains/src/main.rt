@@ -1,5 +1,7 @@
 // A picture for people: it reads m, n and perhaps p as words of standard input, and prints the stripe as a grid with chain p marked, or with each chain in turn.
 // What cannot be drawn gets one sentence on standard error instead.
+#![tactic(auto)]
+
 ghost use Rattle.shape.specs.Good.{Good};
 ghost use Rattle.words.specs.Words.{Refused};
 

@@ -6,7 +6,7 @@ ghost use Rattle.chains.specs.Marks.{Marked};
 use shape::Shape;
 
 // What a symbol is to a chain: its parity symbol, one of its information symbols, with the height, or no symbol of it.
-#[derive(Drop)]
+#[derive(Clone, Copy)]
 pub(crate) enum Mark {
     Parity,
     Information(usize),

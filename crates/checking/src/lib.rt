@@ -1,5 +1,7 @@
 // Check: how many chains of a stripe break the rule, and by how many bits.
 // A block of a chain is counted only where it is not zero, so a sound stripe costs its XORs and no more.
+#![tactic(auto)]
+
 ghost use Rattle.std.specs.Prelude.{◌≡◌, ◌+◌, ◌*◌, ◌≤◌, ◌<◌, length};
 ghost use Rattle.shape.specs.Good.{Good, size};
 ghost use Rattle.walking.specs.Walk.{Walks};
@@ -13,7 +15,7 @@ use shape::Shape;
 use walking::{Walk, along};
 
 // What check reports: how many chains are broken, and by how many bits in all.
-#[derive(Drop)]
+#[derive(Clone, Copy)]
 pub struct Checked {
     pub answer: Answer,
     pub broken: usize,

@@ -1,4 +1,6 @@
 // The commit: the staged columns written into the stripe, symbol by symbol in one fixed order.
+#![tactic(auto)]
+
 ghost use Rattle.std.specs.Prelude.{◌≡◌, ◌+◌, ◌≤◌, ◌<◌, length, take, drop};
 ghost use Rattle.shape.specs.Good.{Good, size};
 ghost use Rattle.shape.specs.Place.{place};

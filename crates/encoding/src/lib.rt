@@ -1,5 +1,7 @@
 // Encode: every parity symbol by the rule, chain after chain.
 // A chain goes by blocks of literal lengths, so that the compiler keeps each in registers: whole blocks in a loop of their own, then the tail.
+#![tactic(auto)]
+
 ghost use Rattle.std.specs.Prelude.{◌≡◌, ◌+◌, ◌%◌, ◌≤◌, ◌<◌, length};
 ghost use Rattle.shape.specs.Good.{Good, size};
 ghost use Rattle.walking.specs.Walk.{Walks};

@@ -1,4 +1,6 @@
 // A column read: fill solves a lost column in the answer buffer, choose hands back the column that is wanted.
+#![tactic(auto)]
+
 mod choosing;
 mod filling;
 

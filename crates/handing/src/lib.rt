@@ -1,4 +1,6 @@
 // A column handed out: a part of the caller's own stripe.
+#![tactic(auto)]
+
 ghost use Rattle.handing.specs.Handed.{Handed};
 
 use answer::Answer;

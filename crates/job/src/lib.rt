@@ -1,4 +1,6 @@
 // The job program on slices: one record of the input in, the fields of one line out. Its kind does the work; here is which one, and what follows.
+#![tactic(auto)]
+
 mod deciding;
 mod stepping;
 mod turning;
@@ -8,14 +10,14 @@ use line::Line;
 pub use stepping::step;
 
 // What the program knows between two records: the shape that it holds, and how many records there were.
-#[derive(Drop)]
+#[derive(Clone, Copy)]
 pub struct State {
     pub held: Held,
     pub records: usize,
 }
 
 // What a step comes to, a turn of the program: the next state, the line and whether it is printed, how many bytes of the input the record took, and whether the program stops.
-#[derive(Drop)]
+#[derive(Clone, Copy)]
 pub struct Turn {
     pub state: State,
     pub line: Line,

@@ -1,4 +1,6 @@
 // What a record of each kind does to the shape held and to its stripe; and what all kinds go by: the shape, its part of the buffer, and the line told.
+#![tactic(auto)]
+
 mod holding;
 mod telling;
 
@@ -7,14 +9,14 @@ use shape::Shape;
 pub use telling::{skip, told};
 
 // The shape that was accepted last, if there was one.
-#[derive(Drop)]
+#[derive(Clone, Copy)]
 pub enum Held {
     None,
     Some(Shape),
 }
 
 // What a record comes to: the shape held after it, whether it gets a line, and that line's answer, x and y.
-#[derive(Drop)]
+#[derive(Clone, Copy)]
 pub struct Deed {
     pub held: Held,
     pub shown: bool,

@@ -1,10 +1,12 @@
 // A line of the job program, and the line as text: its fields in decimal, with a space between them and a newline at the end.
+#![tactic(auto)]
+
 ghost use Rattle.std.specs.Prelude.{◌+◌, ◌≤◌, length};
 ghost use Rattle.line.specs.Printed.{field, Printed};
 ghost use Rattle.line.specs.Printing.{Put};
 
 // The fields of a line.
-#[derive(Drop)]
+#[derive(Clone, Copy)]
 pub struct Line {
     pub number: usize,
     pub kind: usize,

@@ -1,4 +1,6 @@
 // Where the symbols of a chain start, in a list. The list of every chain is one table moved: what does not wrap lies the same, the rest a stripe's length off.
+#![tactic(auto)]
+
 ghost use Rattle.std.specs.Prelude.{◌≡◌, ◌+◌, ◌<◌, ◌≤◌, length};
 ghost use Rattle.shape.specs.Good.{Good};
 ghost use Rattle.listing.specs.Places.{Listed, Laid, Table, Moved, Straight, Further};

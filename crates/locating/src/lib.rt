@@ -1,5 +1,7 @@
 // Locate: which column, if any, explains every chain that is broken.
 // Each chain is counted once; bytes are compared only of two chains that differ by as many bits, and by some.
+#![tactic(auto)]
+
 ghost use Rattle.std.specs.Prelude.{◌+◌, ◌≤◌, ◌<◌, ◌≡◌};
 ghost use Rattle.xor.specs.Tells.{Tells};
 ghost use Rattle.shape.specs.Good.{Good};
@@ -17,14 +19,14 @@ use shape::Shape;
 use walking::{Walk, along};
 
 // What locate finds.
-#[derive(Drop)]
+#[derive(Clone, Copy)]
 pub enum Damage {
     Sound,
     Column(usize),
     Several,
 }
 
-#[derive(Drop)]
+#[derive(Clone, Copy)]
 pub struct Located {
     pub answer: Answer,
     pub damage: Damage,

@@ -1,4 +1,6 @@
 // What is asked of a block: whether it is zero or like a part of a slice, and how many of its bits are 1.
+#![tactic(auto)]
+
 ghost use Rattle.std.specs.Prelude.{◌≡◌, ◌+◌, ◌≤◌, length};
 ghost use Rattle.std.specs.Int.Count.{ones};
 ghost use Rattle.xor.specs.Tells.{Tells};

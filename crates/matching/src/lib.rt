@@ -1,4 +1,6 @@
 // Whether a symbol is the sum of others, a block at a time; the first block that is not ends the search.
+#![tactic(auto)]
+
 ghost use Rattle.std.specs.Prelude.{◌≡◌, ◌+◌, ◌%◌, ◌≤◌, ◌<◌, length};
 ghost use Rattle.xor.specs.Tells.{Tells};
 ghost use Rattle.block.specs.Block.{longest};

@@ -1,4 +1,6 @@
 // Kinds 4 to 6: whether the stripe is damaged and where, and lost columns rebuilt.
+#![tactic(auto)]
+
 mod asking;
 mod rebuilding;
 

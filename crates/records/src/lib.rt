@@ -1,4 +1,6 @@
 // A record of the input: its bytes and two-byte numbers, and whether a whole record stands there.
+#![tactic(auto)]
+
 ghost use Rattle.std.specs.Prelude.{◌≡◌, ◌+◌, ◌≤◌, length, get_or};
 ghost use Rattle.xor.specs.Tells.{Tells};
 ghost use Rattle.records.specs.Record.{two_bytes, Unframed};

@@ -1,12 +1,13 @@
 // The parity rule and the mathematics of losses: what the survivors of a stripe determine.
 // Definitions and theorems; the only data is which columns are lost.
+#![tactic(auto)]
 
 ghost use Rattle.std.specs.Prelude.{◌≡◌};
 ghost use Rattle.xor.specs.Tells.{Tells};
 ghost use Rattle.rule.specs.Losses.{Beyond, Twice, Lost, named};
 
 // Which columns are lost, by the numbers that the caller names.
-#[derive(Drop)]
+#[derive(Clone, Copy)]
 pub enum Losses {
     None,
     One(usize),

@@ -1,4 +1,6 @@
 // Kinds 1 to 3: what a record writes into the stripe, be it the zeros of a new shape or a symbol.
+#![tactic(auto)]
+
 mod shaping;
 mod symbols;
 

@@ -1,4 +1,6 @@
 // The shape record of a stripe: which shapes are good, where each symbol stands, which columns a chain goes through.
+#![tactic(auto)]
+
 ghost use Rattle.std.specs.Prelude.{◌≡◌, ◌-◌, ◌<◌};
 ghost use Rattle.shape.specs.Good.{Good};
 ghost use Rattle.answer.specs.Answers.{First, number};
@@ -28,7 +30,7 @@ const LONGEST_SYMBOL: usize = 4096;
 const LARGEST_STRIPE: usize = 65536;
 
 // A shape: m rows, n columns, and w bytes in each symbol.
-#[derive(Drop)]
+#[derive(Clone, Copy)]
 pub struct Shape {
     pub m: usize,
     pub n: usize,

@@ -1,4 +1,6 @@
 // A symbol solved: the sum of the other symbols of its chain, some of which may have been solved before it.
+#![tactic(auto)]
+
 use shape::Shape;
 
 mod alone;
@@ -9,7 +11,7 @@ pub use outer::{solve_first, solve_second};
 
 // The lost columns of a stripe: the walk leads from first up to second. n stands for no column, and then the walk is too long to ask for anything.
 // In the buffer first's column begins at `one` and second's at `two`.
-#[derive(Drop)]
+#[derive(Clone, Copy)]
 pub struct Gone {
     pub shape: Shape,
     pub first: usize,

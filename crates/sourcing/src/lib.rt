@@ -1,4 +1,6 @@
 // What a lost symbol is solved from: the places of its chain without those that are lost.
+#![tactic(auto)]
+
 ghost use Rattle.std.specs.Prelude.{◌≢◌, ◌⊎◌, ◌≤◌, ◌<◌};
 ghost use Rattle.shape.specs.Good.{Good};
 ghost use Rattle.listing.specs.Places.{Laid};

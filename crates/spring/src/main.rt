@@ -1,5 +1,7 @@
 // The spring incident: clients are rebuilt one after the other in one workspace. Client A, with long symbols, is refused with 9;
 // then comes client B, with shorter ones, and gets what it gets alone. What is expected follows from the contracts, whatever the bytes are.
+#![tactic(auto)]
+
 ghost use Rattle.std.specs.Prelude.{◌≡◌, ◌⊎◌, ℕ, ◌≤◌, ◌<◌, length, get_or};
 ghost use Rattle.answer.specs.declared.Answer.{Answer};
 ghost use Rattle.shape.specs.Good.{Good, size, shape};

@@ -1,4 +1,6 @@
 // Whether a chain of the stripe holds as it stands, a block at a time as in encode: its parity symbol against the others.
+#![tactic(auto)]
+
 ghost use Rattle.std.specs.Prelude.{◌≡◌, ℕ, ◌%◌, ◌≤◌, ◌<◌, length};
 ghost use Rattle.xor.specs.Tells.{Tells};
 ghost use Rattle.shape.specs.Good.{Good, size};

@@ -1,4 +1,6 @@
 // What is on offer: the stock shapes by their numbers, and what a shape costs.
+#![tactic(auto)]
+
 use answer::Answer;
 use shape::Shape;
 
@@ -9,7 +11,7 @@ pub use price_list::prices;
 pub use stock_shapes::stock;
 
 // A shape's price list: what encoding and rebuilding cost in symbol XORs, and the symbols read for one column.
-#[derive(Drop)]
+#[derive(Clone, Copy)]
 pub struct Priced {
     pub answer: Answer,
     pub encode: usize,
@@ -19,7 +21,7 @@ pub struct Priced {
 }
 
 // A stock shape, or why there is none.
-#[derive(Drop)]
+#[derive(Clone, Copy)]
 pub struct Stocked {
     pub answer: Answer,
     pub shape: Shape,

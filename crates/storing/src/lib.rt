@@ -1,5 +1,7 @@
 // One symbol stored, and the raw store that stores one and touches nothing else.
 // A symbol goes by whole blocks, which pass through registers; what is left of it goes byte by byte.
+#![tactic(auto)]
+
 ghost use Rattle.std.specs.Prelude.{◌≡◌, ◌+◌, ◌%◌, ◌≤◌, ◌<◌, length, get_or};
 ghost use Rattle.xor.specs.Spanned.{Spanned};
 ghost use Rattle.shape.specs.Good.{Good, size};

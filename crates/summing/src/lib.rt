@@ -1,12 +1,14 @@
 // Sums of symbols over a list of places, a block at a time and in registers.
 // As in encode, a symbol goes by blocks of literal lengths: whole blocks in a loop of their own, then the tail.
+#![tactic(auto)]
+
 ghost use Rattle.std.specs.Prelude.{◌≡◌, ◌+◌, ◌%◌, ◌≤◌, ◌<◌, length};
 ghost use Rattle.block.specs.Block.{longest, Block};
 ghost use Rattle.summing.specs.Sums.{summed, Fits, Clear, Summed};
 
 // What a symbol is the sum of: of the symbol of the stripe at a, of the one at b, which is in the buffer if it was asked for, and of those at the
 // first count places of a list.
-#[derive(Drop)]
+#[derive(Clone, Copy)]
 pub struct Sum {
     pub count: usize,
     pub a: usize,

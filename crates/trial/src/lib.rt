@@ -1,4 +1,6 @@
 // Bytes to try the calls on, and what is asked of them.
+#![tactic(auto)]
+
 ghost use Rattle.std.specs.Prelude.{length};
 ghost use Rattle.xor.specs.Tells.{Tells};
 ghost use Rattle.looking.specs.Looking.{Zero};

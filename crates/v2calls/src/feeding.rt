@@ -2,18 +2,20 @@
 ghost use Rattle.std.specs.Prelude.{◌≡◌, ◌+◌, ◌≤◌, ◌<◌, length};
 ghost use Rattle.v2calls.specs.Room.{Fed};
 
-use libc::STDIN_FILENO;
 use xor::copy;
 
+// The file descriptor of standard input.
+const STDIN: i32 = 0;
+
 // The bytes of the input buffer that are still to be taken: from `at` up to `end`.
-#[derive(Drop)]
+#[derive(Clone, Copy)]
 pub struct Feed {
     pub at: usize,
     pub end: usize,
 }
 
 // What a fetch comes to: the feed after it, and how many bytes it brought.
-#[derive(Drop)]
+#[derive(Clone, Copy)]
 pub struct Fetched {
     pub feed: Feed,
     pub count: usize,
@@ -36,11 +38,8 @@ impl Feed {
 fn refill(input: &mut [u8]) -> Feed
     ensures { Fed input.new result }
 {
-    let got = libc::read(STDIN_FILENO, input);
-    Feed {
-        at: 0,
-        end: io::count(got, input),
-    }
+    let end = io::read_full(STDIN, input);
+    Feed { at: 0, end: end }
 }
 
 // The feed as it is while it has bytes, and then the next piece's.

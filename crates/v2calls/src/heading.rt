@@ -13,7 +13,7 @@ const MOST_FIRST: usize = 66000;
 const MOST_SECOND: usize = 20000;
 
 // A head as numbers.
-#[derive(Drop)]
+#[derive(Clone, Copy)]
 pub struct Head {
     pub call: usize,
     pub shape: Shape,

@@ -1,4 +1,6 @@
 // The test program of the public calls: it reads calls from standard input, makes each, and prints a line for each.
+#![tactic(auto)]
+
 ghost use Rattle.std.specs.Prelude.{◌≡◌, length};
 
 mod feeding;

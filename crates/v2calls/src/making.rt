@@ -9,7 +9,7 @@ use locating::Damage;
 use rule::named;
 
 // What a line tells of a call: its answer's number and the four numbers after it.
-#[derive(Drop)]
+#[derive(Clone, Copy)]
 pub struct Told {
     pub answer: usize,
     pub x1: usize,

@@ -4,13 +4,14 @@ ghost use Rattle.std.specs.Prelude.{◌≡◌, ◌+◌, ◌≤◌, ◌<◌, leng
 ghost use Rattle.io.specs.Digits.{hex_digit_ascii};
 ghost use Rattle.v2calls.specs.Room.{Room, Last, Spells};
 
-use libc::STDOUT_FILENO;
+// The file descriptor of standard output.
+const STDOUT: i32 = 1;
 
 // Writes the first `used` bytes.
 pub(crate) fn flush(out: &[u8], used: usize)
     requires { used ≤ length out.now }
 {
-    io::write_all(STDOUT_FILENO, &out[..used]);
+    io::write_all(STDOUT, &out[..used]);
 }
 
 // Makes room for two bytes: where the buffer has none, it is written.

@@ -10,7 +10,7 @@ use crate::making::{make, part};
 use crate::printing::flush;
 
 // What the program knows between two calls: the bytes to take, how many are to be written, and whether it goes on.
-#[derive(Drop)]
+#[derive(Clone, Copy)]
 pub struct State {
     pub feed: Feed,
     pub used: usize,

@@ -1,4 +1,6 @@
 // The job program: records from standard input, lines to standard output. The step is `job`'s and the line's text `line`'s; here is only where bytes wait.
+#![tactic(auto)]
+
 ghost use Rattle.std.specs.Prelude.{◌≡◌, ℕ, ◌-◌, ◌≤◌, length, take, drop};
 ghost use Rattle.kinds.specs.declared.Held.TheVariants.{None};
 ghost use Rattle.line.specs.Printed.{longest_line};
@@ -12,7 +14,7 @@ use line::{LONGEST_LINE, Line};
 const LONGEST_RECORD: usize = 4102;
 
 // The input that waits in a buffer: its bytes from `start` to `end`, and whether more may follow.
-#[derive(Drop)]
+#[derive(Clone, Copy)]
 struct Feed {
     start: usize,
     end: usize,
@@ -20,14 +22,14 @@ struct Feed {
 }
 
 // The output that waits: the first `filled` bytes of a buffer, and whether it could always be written.
-#[derive(Drop)]
+#[derive(Clone, Copy)]
 struct Shelf {
     filled: usize,
     open: bool,
 }
 
 // What there is between two records, and whether the program goes on.
-#[derive(Drop)]
+#[derive(Clone, Copy)]
 struct Run {
     state: State,
     feed: Feed,

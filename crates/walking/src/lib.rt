@@ -1,4 +1,6 @@
 // The walk along a chain, and the columns left and right of one: which they are, without a division.
+#![tactic(auto)]
+
 ghost use Rattle.std.specs.Prelude.{◌≡◌, ◌-◌, ◌≤◌, ◌<◌};
 ghost use Rattle.shape.specs.Good.{Good};
 ghost use Rattle.shape.specs.Placed.{Stepped};
@@ -9,7 +11,7 @@ use shape::Shape;
 
 // Where the symbols of a chain stand: below height `end` in the columns p - d and p + d, from there on in l and r and then a column further apart each height.
 // The two of the top height start at x and y, the parity symbol at `at`.
-#[derive(Drop)]
+#[derive(Clone, Copy)]
 pub struct Walk {
     pub top: usize,
     pub p: usize,

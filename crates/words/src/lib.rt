@@ -1,4 +1,6 @@
 // The words of a text, and the numbers that they spell.
+#![tactic(auto)]
+
 ghost use Rattle.std.specs.Prelude.{◌≡◌, ◌-◌, ◌≤◌, length, take, drop};
 ghost use Rattle.words.specs.Words.{Blanks, Letters, Worded, Spells};
 
@@ -9,7 +11,7 @@ const SPACE: u8 = 32;
 const NONE: usize = 1000;
 
 // A word of a text: its bytes from `start` up to `end`. It has none where the text has no further word.
-#[derive(Drop)]
+#[derive(Clone, Copy)]
 pub struct Word {
     pub start: usize,
     pub end: usize,

@@ -1,4 +1,6 @@
 // The small write: one information symbol replaced, and its change XORed into its two parity symbols.
+#![tactic(auto)]
+
 ghost use Rattle.std.specs.Prelude.{◌≡◌, ◌⊎◌, ◌+◌, ◌-◌, ◌%◌, ◌≤◌, ◌<◌, length};
 ghost use Rattle.xor.specs.Spanned.{Spanned, change_of};
 ghost use Rattle.shape.specs.Good.{Good, size};

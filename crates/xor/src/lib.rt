@@ -1,5 +1,7 @@
 // Bytes under XOR: the one theory of XOR sums that every floor above stands on.
 // Its kernels work on slices: bytes copied, a change XORed in, bytes cleared. Each is one loop over a plain index.
+#![tactic(auto)]
+
 ghost use Rattle.std.specs.Prelude.{◌≡◌, ◌⊎◌, ℕ, ◌+◌, ◌≤◌, length, get_or};
 ghost use Rattle.xor.specs.Spanned.{Spanned, change_of};
 
