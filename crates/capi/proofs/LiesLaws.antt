@@ -52,7 +52,7 @@ column_whole sh s c part (k, p) ne = at (ℕ_discrete k 0)
     at (no z) = absurd (ne (ap length (p.refused z)))
     at (yes z) =
         let (good, len, more) = stripe_clear sh s _ (rw z at p.answer) in
-        let within : c < sh.n = (Dec.not_not (dec_lt c sh.n)).0 (λ n. (first_clear 5 more).0 (omega arith)) in
+        let within : c < sh.n = (Dec.not-not (dec_lt c sh.n)).0 (λ n. (first_clear 5 more).0 (omega arith)) in
         record { long = ap length (p.done z) ∙ length_column sh (good_m sh good) (good_w sh good) s len c within; inside = starts sh c good within }
 
 pub column_lies : (sh : Shape) (s : Bor (List ℕ)) (c : ℕ) (r : Bor (List ℕ)) → Handed sh s c r → Lies s r (c * length r.now ∷ length r.now ∷ [])

@@ -12,7 +12,7 @@ use Rattle.locating.proofs.Explains.{explains_is_mends}
 use Rattle.locating.proofs.LocateLaws.{mends_one}
 use Rattle.rebuild.specs.Rebuild.{Cleared}
 use Rattle.rebuild.proofs.RebuildLaws.{rebuild_otherwise, rebuild_decides, rebuild_solves, rebuild_old_bytes, rebuild_either}
-use Rattle.demands.specs.Sequences.{Request, rebuild, job, Served}
+use Rattle.demands.specs.Sequences.{Request, encode, check, locate, small_write, raw_store, rebuild, read_column, fill, choose, prices, stock, job, Served}
 use Rattle.demands.specs.Demands.{Lends, ZeroAfter, ComesBack, RebuildExactly, OneStripe, EitherOrder, OneExplains, OneDamagedColumn, OldBytes}
 
 pub zero_after : ZeroAfter
@@ -22,6 +22,16 @@ zero_after before e lent h = at e.request lent h.served
         → Cleared (length before.work) e.after.work
     at (rebuild sh lost s) lent p = p.2.cleared
     at (job i from s) lent p = p.2.cleared
+    at (encode sh s) lent p = absurd lent
+    at (check sh s) lent p = absurd lent
+    at (locate sh s) lent p = absurd lent
+    at (small_write sh s c i x) lent p = absurd lent
+    at (raw_store sh s c i x) lent p = absurd lent
+    at (read_column sh s c) lent p = absurd lent
+    at (fill sh s lost c b) lent p = absurd lent
+    at (choose sh s lost c b) lent p = absurd lent
+    at (prices sh) lent p = absurd lent
+    at (stock i) lent p = absurd lent
 
 pub comes_back : ComesBack
 comes_back sh lost s hurt room good long bytes obeys agrees a x u h =

@@ -106,8 +106,8 @@ fill_is_rebuild = ColumnRead.rebuild_outer
 pub fill_either_order : FillEitherOrder
 fill_either_order = fill_either
 
-pub column_read : FillThenChoose
-column_read = ColumnRead.column_read
+pub fill_then_choose : FillThenChoose
+fill_then_choose = ColumnRead.column_read
 
 pub choose_empty : ChooseEmpty
 choose_empty sh s lost c buffer part buffer' a p q = ChooseLaws.choose_empty sh s lost c buffer part buffer' a p q

@@ -17,7 +17,6 @@ use Rattle.job.specs.Step.{Stepped}
 use Rattle.job.proofs.StepLaws.{step_refused}
 use Rattle.demands.specs.OneAnswer.{OneResult, OneOutcome}
 use Rattle.demands.specs.Demands.{RefusedChangesNothing, RefusedStep}
-use Rattle.demands.specs.Sequences
 use Rattle.demands.specs.Sequences.{Buffers, Request, Reply, Looks, OnlyStripe, Writes, OnlyAnswer, Puts, Served, encode, check, locate, small_write, raw_store, rebuild, read_column, fill, choose, prices, stock, job, answered, checked, located, handed, priced, stocked, stepped}
 use Rattle.demands.proofs.OneAnswer.{one_encode, one_check, one_locate, one_small_write, one_raw_store, one_rebuild, one_column, one_fill, one_choose, one_prices, one_stock, one_step}
 

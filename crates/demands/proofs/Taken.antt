@@ -15,7 +15,7 @@ use Rattle.demands.specs.Witnesses.{dirty, zeros, cleared_0_lost_3, client_with,
 use Rattle.demands.proofs.Demands.{zero_after, comes_back, rebuild_exactly, one_stripe, either_order, one_explains, one_damaged_column, old_bytes}
 use Rattle.demands.proofs.Served.{refused_changes_nothing, refused_step}
 use Rattle.demands.proofs.Alone.{alone, as_if_alone, no_residue}
-use Rattle.demands.proofs.Reading.{first_is_lowest, explains_is_mends, two_parities, solved_from, one_outer, some_outer, fill_is_rebuild, fill_either_order, column_read, choose_empty, program_order, line_for_each}
+use Rattle.demands.proofs.Reading.{first_is_lowest, explains_is_mends, two_parities, solved_from, one_outer, some_outer, fill_is_rebuild, fill_either_order, fill_then_choose, choose_empty, program_order, line_for_each}
 use Rattle.demands.proofs.OneAnswer.{one_printout}
 use Rattle.demands.proofs.Witnesses.{witnessed}
 
@@ -73,7 +73,7 @@ readings_take =
     let z = sym (fill_is_rebuild sh₅ (Two 0 2) lost_0_2 4 stripe₅ zeros stripe₅ done outer) in
     let z = (fill_either_order sh₅ 0 2 lost_0_2 0 lent Done filled witnessed.19).answer in
     let (done, fill, choose) = witnessed.20 in
-    let z = sym (column_read sh₅ lost_0_2 (Two 0 2) 4 stripe₅ zeros 0 lent filled (0x01 ∷ 0x12 ∷ []) done fill choose) in
+    let z = sym (fill_then_choose sh₅ lost_0_2 (Two 0 2) 4 stripe₅ zeros 0 lent filled (0x01 ∷ 0x12 ∷ []) done fill choose) in
     let ((part, fill), none, short) = witnessed.21 in
     let z = (choose_empty sh₅ lost_0_2 (Two 0 2) 0 lent (0xAA ∷ 0xBB ∷ []) filled Done part fill).0 in
     let z = (choose_empty sh₅ lost_0_2 None 1 (0xAA ∷ []) [] (0xAA ∷ []) BadBuffer none short).0 refl in

@@ -184,8 +184,8 @@ one_outer_meets = let (good, sol) = solved₇ in (good₅, good.columns, good.ap
 outer₆ : Outer sh₅ (Two 0 2) lost_0_2 stripe₅
 outer₆ = let (good, sol) = solved₆ in solves_outer sh₅ good₅ (Two 0 2) good.columns good.apart lost_0_2 stripe₅ sol
 
-column_read_meets : Witnesses.ColumnReadMeets
-column_read_meets = (done₆, fills₅.0, choose_0 0x01 0x12 0xCC 0xDD)
+fill_then_choose_meets : Witnesses.FillThenChooseMeets
+fill_then_choose_meets = (done₆, fills₅.0, choose_0 0x01 0x12 0xCC 0xDD)
 
 choose_empty_meets : Witnesses.ChooseEmptyMeets
 choose_empty_meets = ((choose_0 0xAA 0xBB 0xCC 0xDD, fills₅.0), chooses₅.2, fill_short)
@@ -241,7 +241,7 @@ witnessed = (
   one_outer_meets,
   (done₆, outer₆),
   fills₅.0,
-  column_read_meets,
+  fill_then_choose_meets,
   choose_empty_meets,
   program_order_meets,
   line_for_each_meets,

@@ -1,4 +1,4 @@
--- WITNESSES. For each theorem that has hypotheses, values that meet all of them together: none is a theorem about nothing. `X-meets` lists the hypotheses
+-- WITNESSES. For each theorem that has hypotheses, values that meet all of them together: none is a theorem about nothing. `XMeets` lists the hypotheses
 -- of the theorem `X` at such values, most of them the small stripes of specs/Cases.antt; also those under which a theorem says a part of what it says. What is
 -- said of numbers alone, as 0 < 5, is left out. The hypotheses of specs/OneAnswer.antt are the contracts themselves: `SomeAnswer` is their witness.
 -- Proof: proofs/Witnesses.antt; that the lists are the theorems' hypotheses, and all of them: proofs/Taken.antt.
@@ -183,8 +183,8 @@ FillIsRebuildMeets = Done₆ × Outer sh₅ (Two 0 2) lost_0_2 stripe₅
 abbrev pub FillEitherOrderMeets : Type 0
 FillEitherOrderMeets = Fill sh₅ lost_0_2 (Two 0 2) 0 lent Done filled
 
-abbrev pub ColumnReadMeets : Type 0
-ColumnReadMeets = Done₆ × Fill sh₅ lost_0_2 (Two 0 2) 0 lent Done filled × Choose sh₅ lost_0_2 (Two 0 2) 0 filled (0x01 ∷ 0x12 ∷ [])
+abbrev pub FillThenChooseMeets : Type 0
+FillThenChooseMeets = Done₆ × Fill sh₅ lost_0_2 (Two 0 2) 0 lent Done filled × Choose sh₅ lost_0_2 (Two 0 2) 0 filled (0x01 ∷ 0x12 ∷ [])
 
 -- a part, and none
 abbrev pub ChooseEmptyMeets : Type 0
@@ -230,5 +230,5 @@ Witnessed = RefusedChangesNothingMeets × RefusedStepMeets × ZeroAfterMeets
     × ComesBackMeets × RebuildExactlyMeets × OneStripeMeets × EitherOrderMeets × OneExplainsMeets × OneDamagedColumnMeets
     × AloneMeets × AsIfAloneMeets × OldBytesMeets × NoResidueMeets
     × FirstIsLowestMeets × ExplainsIsMendsMeets × TwoParitiesMeets × SolvedFromMeets × OneOuterMeets
-    × FillIsRebuildMeets × FillEitherOrderMeets × ColumnReadMeets × ChooseEmptyMeets
+    × FillIsRebuildMeets × FillEitherOrderMeets × FillThenChooseMeets × ChooseEmptyMeets
     × ProgramOrderMeets × LineForEachMeets × OnePrintoutMeets

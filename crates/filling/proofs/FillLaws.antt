@@ -54,7 +54,7 @@ module _ (sh : Shape) (s : List ℕ) (lost : Losses) (wanted room : ℕ) where
         shape = good;
         stripe = len;
         columns = λ z. six.0 (inl z);
-        within = (Dec.not_not (dec_lt wanted sh.n)).0 (λ n. six.0 (inr (omega arith)));
+        within = (Dec.not-not (dec_lt wanted sh.n)).0 (λ n. six.0 (inr (omega arith)));
         apart = seven.0;
         buffer = omega (arith, eight.0);
       }

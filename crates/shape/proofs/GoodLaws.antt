@@ -64,7 +64,7 @@ module _ (sh : Shape) where
           m_fits = inside rows sh.m a.0;
           n_fits = inside (columns sh.m) sh.n b.0;
           w_fits = inside symbol sh.w (λ z. c.0 (inl z));
-          all_fits = (Dec.not_not (dec_le (size sh) most)).0 (λ n. c.0 (inr (omega arith)));
+          all_fits = (Dec.not-not (dec_le (size sh) most)).0 (λ n. c.0 (inr (omega arith)));
         }),
   )
 
@@ -106,7 +106,7 @@ module _ (sh : Shape) where
     stripe_done = (
       (λ h. first_pass (shape_table sh) _ 0 shape_lacks (shape_done.0 h.0) (inr ((λ ne. ne h.1), refl))),
       (λ h. let z = first_split (shape_table sh) _ 0 shape_lacks h in
-          (shape_done.1 z.0, (Dec.not_not (ℕ_discrete (length s) (size sh))).0 (first_clear 3 z.1).0)),
+          (shape_done.1 z.0, (Dec.not-not (ℕ_discrete (length s) (size sh))).0 (first_clear 3 z.1).0)),
     )
 
     -- the rest of a table behind the stripe's: handed on, and taken apart

@@ -51,4 +51,4 @@ module _ (n rows w c r : ℕ) (x : List ℕ) where
   struck_ready = (NoSuchPlace, refl, either? (dec_le n c) (dec_le rows r), λ p. (BadBuffer, refl, Dec.not (ℕ_discrete (length x) w), λ q. tt))
 
   pub struck_lt : ¬ ((n ≤ c) ⊎ (rows ≤ r)) → (c < n) × (r < rows)
-  struck_lt h = ((Dec.not_not (dec_lt c n)).0 (λ z. h (inl (omega arith))), (Dec.not_not (dec_lt r rows)).0 (λ z. h (inr (omega arith))))
+  struck_lt h = ((Dec.not-not (dec_lt c n)).0 (λ z. h (inl (omega arith))), (Dec.not-not (dec_lt r rows)).0 (λ z. h (inr (omega arith))))

@@ -1,0 +1,11 @@
+-- `alike`. The invariant: `same` says whether the bytes below `from` differ alike. The measure: the bytes to go.
+use Prim.Native.Nat.{◌-◌, ◌≤◌}
+use Rattle.xor.specs.Tells.{Tells}
+use Rattle.locating.specs.Locating.{Level}
+use Rattle.locating.proofs.alike.Given as goal
+
+abbrev pub invariant-loop-from : goal.invariant-loop-from
+invariant-loop-from l = (l.from ≤ l.w) × Tells (Level l.shape l.s l.wk.p l.other.p 0 l.from) l.same
+
+abbrev pub decreases-loop-from : goal.decreases-loop-from
+decreases-loop-from l = l.w - l.from

@@ -1,0 +1,11 @@
+-- `client_b`: what was encoded obeys the rule and agrees with the survivors, so it is what comes back.
+use native.Mathlib.Omega.{arith}
+use Rattle.spring.proofs.Told.{back_told}
+use Rattle.spring.proofs.client_b.Goals as goal
+
+pub expect-requires : goal.expect-requires
+expect-requires c =
+    let p = c.requires in
+    c.same.ensures.1
+    (back_told c.as_alone.ensures.1 (omega (arith, p)) (omega (arith, c.lose.auto, p)) (omega (arith, c.encoded.auto, p))
+    (λ i h. omega (arith, c.slice_known-7-1.given i)) (λ good len. c.encoded.ensures good (omega (arith, c.encoded.auto))) c.lose.ensures)

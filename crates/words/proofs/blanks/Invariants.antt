@@ -1,0 +1,11 @@
+-- `blanks`: every byte passed is a blank. The measure is the bytes to go.
+use Prim.Native.Nat.{ℕ, ◌-◌, ◌≤◌, ◌<◌}
+use lib.ListN.{length, get_or}
+use Rattle.words.specs.Words.{blank}
+use Rattle.words.proofs.blanks.Given as goal
+
+abbrev pub invariant-loop-i : goal.invariant-loop-i
+invariant-loop-i l = (l.from ≤ l.i) × (l.i ≤ length l.text) × ((k : ℕ) → l.from ≤ k → k < l.i → get_or l.text k 0 ≤ blank)
+
+abbrev pub decreases-loop-i : goal.decreases-loop-i
+decreases-loop-i l = length l.text - l.i
