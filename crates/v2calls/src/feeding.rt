@@ -2,10 +2,8 @@
 ghost use Rattle.std.specs.Prelude.{◌≡◌, ◌+◌, ◌≤◌, ◌<◌, length};
 ghost use Rattle.v2calls.specs.Room.{Fed};
 
+use std::io::{Read, Stdin};
 use xor::copy;
-
-// The file descriptor of standard input.
-const STDIN: i32 = 0;
 
 // The bytes of the input buffer that are still to be taken: from `at` up to `end`.
 #[derive(Clone, Copy)]
@@ -34,23 +32,25 @@ impl Feed {
     }
 }
 
-// Reads the next piece; a piece of no bytes is the end of the input.
-fn refill(input: &mut [u8]) -> Feed
+// Reads the next piece; a piece of no bytes is the end of the input, and so is a read that fails.
+fn refill(mut stdin: Stdin, input: &mut [u8]) -> Feed
     ensures { Fed input.new result }
 {
-    let end = io::read_full(STDIN, input);
-    Feed { at: 0, end: end }
+    match stdin.read(input) {
+        Ok(count) => Feed { at: 0, end: count },
+        Err(_) => Feed { at: 0, end: 0 },
+    }
 }
 
 // The feed as it is while it has bytes, and then the next piece's.
-fn ready(input: &mut [u8], feed: Feed) -> Feed
+fn ready(stdin: Stdin, input: &mut [u8], feed: Feed) -> Feed
     requires { Fed input.old feed }
     ensures { Fed input.new result }
 {
     if feed.at < feed.end {
         return feed;
     }
-    refill(input)
+    refill(stdin, input)
 }
 
 // The lesser of two numbers.
@@ -73,14 +73,14 @@ fn hand(input: &[u8], feed: Feed, out: &mut [u8], done: usize) -> usize
 }
 
 // Fills `out` from the input; it brings fewer bytes only where the input ends.
-pub(crate) fn fetch(input: &mut [u8], start: Feed, out: &mut [u8]) -> Fetched
+pub(crate) fn fetch(stdin: Stdin, input: &mut [u8], start: Feed, out: &mut [u8]) -> Fetched
     requires { Fed input.old start }
     ensures { Fed input.new result.feed }
 {
     let mut feed = start;
     let mut done = 0;
     while done < out.len() {
-        feed = ready(input, feed);
+        feed = ready(stdin, input, feed);
         if feed.end <= feed.at {
             break;
         }

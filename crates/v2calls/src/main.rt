@@ -26,10 +26,10 @@ fn second_room() -> [u8; 20000]
     [0; 20000]
 }
 
-fn main() {
+fn main(rt: HostRuntime) {
     let mut input = io::large_buffer();
     let mut output = io::large_buffer();
     let mut first = first_room();
     let mut second = second_room();
-    serve_all(&mut input, &mut first, &mut second, &mut output);
+    serve_all(rt.stdin(), &mut input, &mut first, &mut second, &mut output);
 }

@@ -8,6 +8,7 @@ use crate::heading::{Head, admitted, spelled};
 use crate::lining::{bad, buffers, numbers};
 use crate::making::{make, part};
 use crate::printing::flush;
+use std::io::Stdin;
 
 // What the program knows between two calls: the bytes to take, how many are to be written, and whether it goes on.
 #[derive(Clone, Copy)]
@@ -41,6 +42,7 @@ fn answer(out: &mut [u8], used: usize, head: Head, first: &mut [u8], second: &mu
 
 // Takes the buffers of a call and answers it.
 fn take(
+    stdin: Stdin,
     input: &mut [u8],
     feed: Feed,
     head: Head,
@@ -52,12 +54,12 @@ fn take(
     requires { (Fed input.old feed) × (Room out.old used) × (1 ≤ head.call) × (head.call ≤ 11) }
     ensures { Steady input.new out.new result }
 {
-    let one = fetch(input, feed, first);
+    let one = fetch(stdin, input, feed, first);
     let middle = one.feed;
     if one.count < first.len() {
         return stopped(out, middle, used);
     }
-    let two = fetch(input, middle, second);
+    let two = fetch(stdin, input, middle, second);
     let end = two.feed;
     if two.count < second.len() {
         return stopped(out, end, used);
@@ -71,6 +73,7 @@ fn take(
 
 // Serves the call of a head that is admitted, each buffer in the room that it has.
 fn serve_head(
+    stdin: Stdin,
     input: &mut [u8],
     feed: Feed,
     head: Head,
@@ -85,6 +88,7 @@ fn serve_head(
     let one = head.first;
     let two = head.second;
     take(
+        stdin,
         input,
         feed,
         head,
@@ -97,6 +101,7 @@ fn serve_head(
 
 // Serves the next call, if there is one.
 fn serve(
+    stdin: Stdin,
     input: &mut [u8],
     first: &mut [u8],
     second: &mut [u8],
@@ -109,7 +114,7 @@ fn serve(
     let used = state.used;
     let start = state.feed;
     let mut bytes = [0u8; 65];
-    let fetched = fetch(input, start, &mut bytes);
+    let fetched = fetch(stdin, input, start, &mut bytes);
     let feed = fetched.feed;
     if fetched.count == 0 {
         return State {
@@ -125,11 +130,17 @@ fn serve(
     if !admitted(head) {
         return stopped(out, feed, used);
     }
-    serve_head(input, feed, head, first, second, out, used)
+    serve_head(stdin, input, feed, head, first, second, out, used)
 }
 
 // Serves every call of the input. The loop counts its turns down from a number that no run uses up.
-pub(crate) fn serve_all(input: &mut [u8], first: &mut [u8], second: &mut [u8], out: &mut [u8])
+pub(crate) fn serve_all(
+    stdin: Stdin,
+    input: &mut [u8],
+    first: &mut [u8],
+    second: &mut [u8],
+    out: &mut [u8],
+)
     requires { (Room out.old 0) × (length first.old ≡ 66000) × (length second.old ≡ 20000) }
 {
     let mut state = State {
@@ -139,7 +150,7 @@ pub(crate) fn serve_all(input: &mut [u8], first: &mut [u8], second: &mut [u8], o
     };
     let mut turns = u64::MAX;
     while turns > 0 && state.goes {
-        state = serve(input, first, second, out, state);
+        state = serve(stdin, input, first, second, out, state);
         turns -= 1;
     }
     let used = state.used;
