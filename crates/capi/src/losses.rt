@@ -12,8 +12,7 @@ use rule::{is_lost, named};
 use shape::Shape;
 
 // Writes the lost columns of the stripe, and clears the workspace.
-#[unsafe(no_mangle)]
-pub extern "C" fn bangsorut_rebuild(
+pub fn bangsorut_rebuild(
     m: usize,
     n: usize,
     w: usize,
@@ -31,8 +30,7 @@ pub extern "C" fn bangsorut_rebuild(
 }
 
 // Puts the wanted column, if it is lost, into the answer buffer.
-#[unsafe(no_mangle)]
-pub extern "C" fn bangsorut_fill(
+pub fn bangsorut_fill(
     m: usize,
     n: usize,
     w: usize,
@@ -51,8 +49,7 @@ pub extern "C" fn bangsorut_fill(
 }
 
 // Where the wanted column lies: 0 in the stripe or 1 in the answer buffer, its start there and its length; zeros where fill is refused.
-#[unsafe(no_mangle)]
-pub extern "C" fn bangsorut_choose<'a>(
+pub fn bangsorut_choose<'a>(
     m: usize,
     n: usize,
     w: usize,

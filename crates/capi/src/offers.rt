@@ -6,8 +6,7 @@ use shape::Shape;
 use stock::{prices, stock};
 
 // The price list of a shape, in symbol XORs: encode, one column, two columns; and the symbols read for one column.
-#[unsafe(no_mangle)]
-pub extern "C" fn bangsorut_prices(m: usize, n: usize, w: usize, list: &mut [usize; 4]) -> usize
+pub fn bangsorut_prices(m: usize, n: usize, w: usize, list: &mut [usize; 4]) -> usize
     ensures { PricesTold (shape m n w) result list.new }
 {
     let report = prices(Shape { m: m, n: n, w: w });
@@ -17,8 +16,7 @@ pub extern "C" fn bangsorut_prices(m: usize, n: usize, w: usize, list: &mut [usi
 }
 
 // The stock shape of a number: m, n and w.
-#[unsafe(no_mangle)]
-pub extern "C" fn bangsorut_stock(which: usize, measures: &mut [usize; 3]) -> usize
+pub fn bangsorut_stock(which: usize, measures: &mut [usize; 3]) -> usize
     ensures { StockTold which result measures.new }
 {
     let report = stock(which);

@@ -10,8 +10,7 @@ use storing::raw_store;
 use writing::small_write;
 
 // Replaces an information symbol and XORs the change into its two parity symbols.
-#[unsafe(no_mangle)]
-pub extern "C" fn bangsorut_small_write(
+pub fn bangsorut_small_write(
     m: usize,
     n: usize,
     w: usize,
@@ -27,8 +26,7 @@ pub extern "C" fn bangsorut_small_write(
 }
 
 // Replaces the symbol of any row, and leaves the parity as it is.
-#[unsafe(no_mangle)]
-pub extern "C" fn bangsorut_raw_store(
+pub fn bangsorut_raw_store(
     m: usize,
     n: usize,
     w: usize,
@@ -44,8 +42,7 @@ pub extern "C" fn bangsorut_raw_store(
 }
 
 // Where in the stripe a column lies: its start and its length, zeros where the request is refused.
-#[unsafe(no_mangle)]
-pub extern "C" fn bangsorut_column(
+pub fn bangsorut_column(
     m: usize,
     n: usize,
     w: usize,

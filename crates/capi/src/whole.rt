@@ -10,8 +10,7 @@ use locating::{Damage, locate};
 use shape::Shape;
 
 // Sets every parity symbol of the stripe.
-#[unsafe(no_mangle)]
-pub extern "C" fn bangsorut_encode(m: usize, n: usize, w: usize, stripe: &mut [u8]) -> usize
+pub fn bangsorut_encode(m: usize, n: usize, w: usize, stripe: &mut [u8]) -> usize
     ensures { Numbered (Encode (shape m n w) stripe.old) result stripe.new }
 {
     let answer = encode(Shape { m: m, n: n, w: w }, stripe);
@@ -19,8 +18,7 @@ pub extern "C" fn bangsorut_encode(m: usize, n: usize, w: usize, stripe: &mut [u
 }
 
 // How many chains of the stripe are broken, and by how many bits in all.
-#[unsafe(no_mangle)]
-pub extern "C" fn bangsorut_check(
+pub fn bangsorut_check(
     m: usize,
     n: usize,
     w: usize,
@@ -47,8 +45,7 @@ fn numbers(damage: Damage) -> [usize; 2]
 }
 
 // Which column of the stripe, if any, explains every chain that is broken.
-#[unsafe(no_mangle)]
-pub extern "C" fn bangsorut_locate(
+pub fn bangsorut_locate(
     m: usize,
     n: usize,
     w: usize,
