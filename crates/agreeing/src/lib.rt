@@ -104,13 +104,11 @@ fn between<'a>(s: &'a [u8], out: &'a [u8], table: &[u16; 32], x: Gone, end: usiz
     ensures { Tells ((e : ℕ) → 1 ≤ e → e < end → Holds x s.now out.now (right x.shape.n x.first e)) result }
 {
     let mut p = x.first;
-    let mut e = 1;
-    while e < end {
+    for e in 1..end {
         p = above(x.shape.n, p, 1);
         if !holds(s, out, table, x, p, e) {
             return false;
         }
-        e += 1;
     }
     true
 }

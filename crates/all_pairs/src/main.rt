@@ -1,111 +1,83 @@
-// Every pair of columns lost and rebuilt, for three codes with three lengths of symbol; and every single column, and none.
-// One line a shape, with what was counted; each run starts from a stripe with other bytes in the lost columns and a workspace full of old ones.
+// Every pair of columns lost and rebuilt, for three codes with three lengths of symbol; and every single column, and
+// none. One line a shape, with what was counted; each run starts from a stripe with other bytes in the lost columns
+// and a workspace full of old ones.
 #![tactic(auto)]
 
 ghost use Rattle.std.specs.Prelude.{◌≡◌, length};
 ghost use Rattle.shape.specs.Good.{Good, size};
 
 use crate::trying::{altered, none, pairs, singles};
-use answer::Answer;
 use shape::Shape;
+use std::io;
 use trial::{pattern, sum};
 
 mod tally;
 mod trying;
 
-// Fills a stripe, encodes it, and writes the sum over it.
-fn encoded(shape: Shape, whole: &mut [u8]) {
-    pattern(whole, 1);
-    encoding::encode(shape, whole);
-    io::write_all(1, b": sum ");
-    io::print_decimal(1, sum(whole));
-}
-
-// Rebuilds an encoded stripe in every way.
+// Rebuilds an encoded stripe in every way, and writes what came of it.
 fn rebuilt(
+    rt: &impl Print,
     shape: Shape,
     whole: &[u8],
     given: &mut [u8],
     stripe: &mut [u8],
     work: &mut [u8],
     other: &[u8],
-)
+) -> io::Result<()>
     requires { (Good shape) × (length whole.now ≡ size shape) × (length given.old ≡ size shape) × (length stripe.old ≡ size shape) }
 {
-    none(shape, whole, stripe, work);
-    singles(shape, whole, given, stripe, work, other);
-    altered(shape, whole, given, stripe, work, other);
-    pairs(shape, whole, given, stripe, work, other);
+    let none = none(shape, whole, stripe, work);
+    let singles = singles(shape, whole, given, stripe, work, other);
+    let altered = altered(shape, whole, given, stripe, work, other);
+    let pairs = pairs(shape, whole, given, stripe, work, other);
+    print!(rt;
+        ", none lost {none}, one lost {singles}, one lost and one altered {altered}, two lost {pairs}"
+    )
 }
 
-// Writes a number of a shape.
-fn number(x: usize) {
-    io::print_decimal(1, x as u64);
-}
-
-// Lends the buffers of a shape: three stripes, a workspace of 2·m·w bytes and a symbol.
-fn lend(shape: Shape)
+// Writes the line of a shape. It has three stripes, a workspace of 2·m·w bytes and a symbol to put into lost columns.
+fn line(rt: &(impl Print + AllocGlobal), shape: Shape) -> io::Result<()>
     requires { Good shape }
 {
+    let Shape { m, n, w } = shape;
     let len = shape.stripe_length();
-    let room = 2 * shape.column_length();
-    let w = shape.w;
-    let mut first = io::large_buffer();
-    let mut second = io::large_buffer();
-    let mut third = io::large_buffer();
-    let mut fourth = io::large_buffer();
-    let mut fifth = io::buffer();
-    let whole = &mut first[..len];
-    encoded(shape, whole);
-    let other = &mut fifth[..w];
-    pattern(other, 3);
+    let mut whole = vec![in rt.alloc(); 0; len]?;
+    let mut given = vec![in rt.alloc(); 0; len]?;
+    let mut stripe = vec![in rt.alloc(); 0; len]?;
+    let mut work = vec![in rt.alloc(); 0; 2 * shape.column_length()]?;
+    let mut other = vec![in rt.alloc(); 0; w]?;
+    pattern(&mut whole, 1);
+    let _ = encoding::encode(shape, &mut whole);
+    pattern(&mut other, 3);
+    print!(rt; "{m} {n} {w}: sum {}", sum(&whole))?;
     rebuilt(
+        rt,
         shape,
-        whole,
-        &mut second[..len],
-        &mut third[..len],
-        &mut fourth[..room],
-        other,
-    );
+        &whole,
+        &mut given,
+        &mut stripe,
+        &mut work,
+        &other,
+    )?;
+    println!(rt;)
 }
 
-// Writes the line of a shape.
-fn line(shape: Shape)
-    requires { Good shape }
-{
-    number(shape.m);
-    io::write_all(1, b" ");
-    number(shape.n);
-    io::write_all(1, b" ");
-    number(shape.w);
-    lend(shape);
-    io::write_all(1, b"\n");
-}
-
-// Does so for a good shape.
-fn run(shape: Shape) {
-    match shape.refusal() {
-        Answer::Done => line(shape),
-        _ => {}
+// Writes the lines of a code, with symbols of one byte, of 16 and a byte, and of 128 and two.
+fn lines(rt: &(impl Print + AllocGlobal), m: usize, n: usize) -> io::Result<()> {
+    for w in [1, 17, 130] {
+        let shape = Shape { m, n, w };
+        if let Ok(()) = shape.accept() {
+            line(rt, shape)?;
+        }
     }
+    Ok(())
 }
 
-fn main() {
-    io::write_all(
-        1,
-        b"m n w: runs/answered 0, or 9 where a byte is altered/stripe as encoded, or as given/workspace all zero\n",
-    );
-    run(Shape { m: 2, n: 5, w: 1 });
-    run(Shape { m: 2, n: 5, w: 17 });
-    run(Shape { m: 2, n: 5, w: 130 });
-    run(Shape { m: 3, n: 9, w: 1 });
-    run(Shape { m: 3, n: 9, w: 17 });
-    run(Shape { m: 3, n: 9, w: 130 });
-    run(Shape { m: 4, n: 13, w: 1 });
-    run(Shape { m: 4, n: 13, w: 17 });
-    run(Shape {
-        m: 4,
-        n: 13,
-        w: 130,
-    });
+fn main(rt: HostRuntime) -> io::Result<()> {
+    println!(rt;
+        "m n w: runs/answered 0, or 9 where a byte is altered/stripe as encoded, or as given/workspace all zero"
+    )?;
+    lines(&rt, 2, 5)?;
+    lines(&rt, 3, 9)?;
+    lines(&rt, 4, 13)
 }

@@ -2,20 +2,15 @@
 ghost use Rattle.std.specs.Prelude.{◌≡◌, ◌+◌, ◌≤◌, ◌<◌};
 ghost use Rattle.all_pairs.specs.Tallies.{Sane, runs_most};
 
-// How many runs there were; how many answered the number, left the stripe and left the workspace as they should.
+use std::fmt;
+
+// How many runs there were; how many answered, left the stripe and left the workspace as they should.
 #[derive(Clone, Copy)]
 pub(crate) struct Tally {
     pub runs: u64,
     pub answered: u64,
     pub left: u64,
     pub cleared: u64,
-}
-
-// 1 for a yes.
-fn one(yes: bool) -> u64
-    ensures { result ≤ 1 }
-{
-    if yes { 1 } else { 0 }
 }
 
 impl Tally {
@@ -38,21 +33,22 @@ impl Tally {
     {
         Tally {
             runs: self.runs + 1,
-            answered: self.answered + one(answered),
-            left: self.left + one(left),
-            cleared: self.cleared + one(cleared),
+            answered: self.answered + u64::from(answered),
+            left: self.left + u64::from(left),
+            cleared: self.cleared + u64::from(cleared),
         }
     }
+}
 
-    // Writes a name and the four counts.
-    pub(crate) fn show(self, name: &[u8]) {
-        io::write_all(1, name);
-        io::print_decimal(1, self.runs);
-        io::write_all(1, b"/");
-        io::print_decimal(1, self.answered);
-        io::write_all(1, b"/");
-        io::print_decimal(1, self.left);
-        io::write_all(1, b"/");
-        io::print_decimal(1, self.cleared);
+// The four counts.
+impl fmt::Display for Tally {
+    fn fmt<W: fmt::Write>(&self, f: &mut fmt::Formatter<W>) -> fmt::Result {
+        let Tally {
+            runs,
+            answered,
+            left,
+            cleared,
+        } = *self;
+        write!(f, "{runs}/{answered}/{left}/{cleared}")
     }
 }

@@ -4,39 +4,36 @@ ghost use Rattle.shape.specs.Good.{Good, size};
 ghost use Rattle.all_pairs.specs.Tallies.{Sane, runs_most};
 
 use crate::tally::Tally;
-use check::same;
+use answer::{Answer, Refusal};
 use rule::Losses;
 use shape::Shape;
 use trial::{pattern, zeros};
-use xor::copy;
 
-// One rebuild of the stripe as given, in a workspace full of old bytes: whether it answers the number, leaves the stripe so and the workspace all zero.
+// One rebuild of the stripe as given, in a workspace full of old bytes: whether it answers as wanted, leaves the
+// stripe so and the workspace all zero.
 fn rebuilt(
     shape: Shape,
     lost: Losses,
     given: &[u8],
     stripe: &mut [u8],
     work: &mut [u8],
-    number: usize,
+    wanted: Answer,
     left: &[u8],
     tally: Tally,
 ) -> Tally
     requires { (length given.now ≤ length stripe.old) × (Sane tally) × (tally.runs < runs_most) }
     ensures { (Sane result) × (result.runs ≡ tally.runs + 1) }
 {
-    copy(given, stripe, 0);
+    stripe[..given.len()].copy_from_slice(given);
     pattern(work, 5);
     let answer = rebuild::rebuild(shape, lost, stripe, work);
-    tally.with(answer.number() == number, same(stripe, left), zeros(work))
+    tally.with(answer == wanted, *stripe == *left, zeros(work))
 }
 
 // Stores other bytes in a column.
 fn lose(shape: Shape, stripe: &mut [u8], column: usize, other: &[u8]) {
-    let m = shape.m;
-    let mut row = 0;
-    while row < m {
-        storing::raw_store(shape, stripe, column, row, other);
-        row += 1;
+    for row in 0..shape.m {
+        let _ = storing::raw_store(shape, stripe, column, row, other);
     }
 }
 
@@ -45,24 +42,23 @@ fn alter(shape: Shape, stripe: &mut [u8], column: usize, seed: usize)
     requires { (Good shape) × (length stripe.old ≡ size shape) × (column < shape.n) }
 {
     let at = shape.place(seed % shape.m, column) + seed % shape.w;
-    stripe[at] = stripe[at] ^ 1;
+    stripe[at] ^= 1;
 }
 
 // With none lost.
-pub(crate) fn none(shape: Shape, whole: &[u8], stripe: &mut [u8], work: &mut [u8])
+pub(crate) fn none(shape: Shape, whole: &[u8], stripe: &mut [u8], work: &mut [u8]) -> Tally
     requires { length whole.now ≡ length stripe.old }
 {
-    let tally = rebuilt(
+    rebuilt(
         shape,
         Losses::None,
         whole,
         stripe,
         work,
-        0,
+        Ok(()),
         whole,
         Tally::new(),
-    );
-    tally.show(b", none lost ");
+    )
 }
 
 // With each column lost.
@@ -73,22 +69,28 @@ pub(crate) fn singles(
     stripe: &mut [u8],
     work: &mut [u8],
     other: &[u8],
-)
+) -> Tally
     requires { (Good shape) × (length whole.now ≡ length given.old) × (length given.old ≡ length stripe.old) }
 {
-    let n = shape.n;
     let mut tally = Tally::new();
-    let mut c = 0;
-    while c < n {
-        copy(whole, given, 0);
+    for c in 0..shape.n {
+        given.copy_from_slice(whole);
         lose(shape, given, c, other);
-        tally = rebuilt(shape, Losses::One(c), given, stripe, work, 0, whole, tally);
-        c += 1;
+        tally = rebuilt(
+            shape,
+            Losses::One(c),
+            given,
+            stripe,
+            work,
+            Ok(()),
+            whole,
+            tally,
+        );
     }
-    tally.show(b", one lost ");
+    tally
 }
 
-// With each column lost and a byte of the next one altered: the answer is 9.
+// With each column lost and a byte of the next one altered: then the survivors disagree.
 pub(crate) fn altered(
     shape: Shape,
     whole: &[u8],
@@ -96,20 +98,27 @@ pub(crate) fn altered(
     stripe: &mut [u8],
     work: &mut [u8],
     other: &[u8],
-)
+) -> Tally
     requires { (Good shape) × (length whole.now ≡ size shape) × (length given.old ≡ size shape) × (length stripe.old ≡ size shape) }
 {
-    let n = shape.n;
+    let wanted = Err(Refusal::Disagree);
     let mut tally = Tally::new();
-    let mut c = 0;
-    while c < n {
-        copy(whole, given, 0);
+    for c in 0..shape.n {
+        given.copy_from_slice(whole);
         lose(shape, given, c, other);
-        alter(shape, given, (c + 1) % n, c);
-        tally = rebuilt(shape, Losses::One(c), given, stripe, work, 9, given, tally);
-        c += 1;
+        alter(shape, given, (c + 1) % shape.n, c);
+        tally = rebuilt(
+            shape,
+            Losses::One(c),
+            given,
+            stripe,
+            work,
+            wanted,
+            given,
+            tally,
+        );
     }
-    tally.show(b", one lost and one altered ");
+    tally
 }
 
 // Columns a and b lost; no run where they are the same.
@@ -130,7 +139,7 @@ fn pair(
     if a == b {
         return tally;
     }
-    copy(whole, given, 0);
+    given.copy_from_slice(whole);
     lose(shape, given, a, other);
     lose(shape, given, b, other);
     rebuilt(
@@ -139,7 +148,7 @@ fn pair(
         given,
         stripe,
         work,
-        0,
+        Ok(()),
         whole,
         tally,
     )
@@ -159,12 +168,9 @@ fn pairs_with(
     requires { (Good shape) × (length whole.now ≡ length given.old) × (length given.old ≡ length stripe.old) × (Sane before) × (before.runs + 64 ≤ runs_most) }
     ensures { (Sane result) × (result.runs ≤ before.runs + 64) }
 {
-    let n = shape.n;
     let mut tally = before;
-    let mut b = 0;
-    while b < n {
+    for b in 0..shape.n {
         tally = pair(shape, a, b, whole, given, stripe, work, other, tally);
-        b += 1;
     }
     tally
 }
@@ -177,15 +183,12 @@ pub(crate) fn pairs(
     stripe: &mut [u8],
     work: &mut [u8],
     other: &[u8],
-)
+) -> Tally
     requires { (Good shape) × (length whole.now ≡ length given.old) × (length given.old ≡ length stripe.old) }
 {
-    let n = shape.n;
     let mut tally = Tally::new();
-    let mut a = 0;
-    while a < n {
+    for a in 0..shape.n {
         tally = pairs_with(shape, a, whole, given, stripe, work, other, tally);
-        a += 1;
     }
-    tally.show(b", two lost ");
+    tally
 }

@@ -1,26 +1,26 @@
 -- Laws of answers and tables of refusals.
--- To cite: number_apart, number_done; not_done in the arm of a `match` for all but Done; first_one, first_stop, first_pass, first_split, first_clear, first_lowest; Like with like_first.
+-- To cite: number_apart, number_done; refused for an `Err`; first_one, first_stop, first_pass, first_split, first_clear, first_lowest; Like with like_first.
 use mathlib.Core.Path.{◌≡◌, refl, sym, ap, ◌∙◌}
 use mathlib.Core.Logic.Iff
 use mathlib.Core.Logic.{◌↔◌, ◌≢◌, ◌⊎◌, inl, inr}
 use mathlib.Core.List.{List, [], ◌∷◌, ◌++◌}
-use Prim.Native.Nat.{ℕ, suc, ◌≤◌, ◌<◌}
+use Prim.Native.Nat.{ℕ, suc, ◌-◌, ◌≤◌, ◌<◌}
+use Rattle.std.specs.Prelude.{Result, Ok, Err}
 use native.Mathlib.Omega.{arith}
 use lib.ListN.{get_or}
-use Rattle.answer.specs.declared.Answer.{Answer}
-use Rattle.answer.specs.declared.Answer.TheVariants.{Done, BadRows, BadColumns, BadSymbol, BadStripe, SmallWorkspace, NoSuchPlace, SameColumn, BadBuffer, Disagree, NoSuchStock, UnknownKind, BadRecord, BadPayload, NoShape}
-use Rattle.answer.specs.Answers.{number, Table, First, Applies, Rises}
+use Rattle.answer.specs.declared.Refusal.{Refusal}
+use Rattle.answer.specs.declared.Refusal.TheVariants.{BadRows, BadColumns, BadSymbol, BadStripe, SmallWorkspace, NoSuchPlace, SameColumn, BadBuffer, Disagree, NoSuchStock, UnknownKind, BadRecord, BadPayload, NoShape}
+use Rattle.answer.specs.Answers.{Answer, refusal_number, number, Table, First, Applies, Rises}
 
--- ---- numbers tell answers apart
+-- ---- numbers tell refusals and answers apart
 
-in_order : List Answer
+in_order : List Refusal
 in_order =
-    Done ∷ BadRows ∷ BadColumns ∷ BadSymbol ∷ BadStripe ∷ SmallWorkspace ∷ NoSuchPlace ∷ SameColumn ∷ BadBuffer ∷ Disagree
+    BadRows ∷ BadColumns ∷ BadSymbol ∷ BadStripe ∷ SmallWorkspace ∷ NoSuchPlace ∷ SameColumn ∷ BadBuffer ∷ Disagree
     ∷ NoSuchStock ∷ UnknownKind ∷ BadRecord ∷ BadPayload ∷ NoShape ∷ []
 
-at_number : (a : Answer) → get_or in_order (number a) Done ≡ a
-unfolding number in_order
-at_number Done = refl
+at_number : (r : Refusal) → get_or in_order (refusal_number r - 1) NoShape ≡ r
+unfolding refusal_number in_order
 at_number BadRows = refl
 at_number BadColumns = refl
 at_number BadSymbol = refl
@@ -36,15 +36,45 @@ at_number BadRecord = refl
 at_number BadPayload = refl
 at_number NoShape = refl
 
+above_0 : (r : Refusal) → 0 < refusal_number r
+unfolding refusal_number
+above_0 BadRows = omega arith
+above_0 BadColumns = omega arith
+above_0 BadSymbol = omega arith
+above_0 BadStripe = omega arith
+above_0 SmallWorkspace = omega arith
+above_0 NoSuchPlace = omega arith
+above_0 SameColumn = omega arith
+above_0 BadBuffer = omega arith
+above_0 Disagree = omega arith
+above_0 NoSuchStock = omega arith
+above_0 UnknownKind = omega arith
+above_0 BadRecord = omega arith
+above_0 BadPayload = omega arith
+above_0 NoShape = omega arith
+
+-- the number of a refusal is not 0; that of an answer that is none is
+pub refused : {A : Type 0} {x : Result A Refusal} {r : Refusal} → x ≡ Err r → number x ≢ 0
+unfolding number
+refused {r = r} e z = omega (arith, above_0 r, ap number e)
+
+pub given : {A : Type 0} {x : Result A Refusal} {v : A} → x ≡ Ok v → number x ≡ 0
+unfolding number
+given e = ap number e
+
 pub number_apart : (a b : Answer) → number a ≡ number b → a ≡ b
-number_apart a b e = sym (at_number a) ∙ ap (λ (k : ℕ). get_or in_order k Done) e ∙ at_number b
+unfolding number
+number_apart (Ok x) (Ok y) e = refl
+number_apart (Ok x) (Err b) e = absurd (omega (arith, above_0 b))
+number_apart (Err a) (Ok y) e = absurd (omega (arith, above_0 a))
+number_apart (Err a) (Err b) e = ap Err (sym (at_number a) ∙ ap (λ (k : ℕ). get_or in_order (k - 1) NoShape) e ∙ at_number b)
 
 -- 0 means done
-pub number_done : (a : Answer) → (number a ≡ 0) ↔ (a ≡ Done)
+pub number_done : (a : Answer) → (number a ≡ 0) ↔ (a ≡ Ok tt)
 unfolding number
-number_done a = (number_apart a Done, ap number)
+number_done a = (number_apart a (Ok tt), ap number)
 
-pub not_done : (a : Answer) → a ≢ Done → number a ≢ 0
+pub not_done : (a : Answer) → a ≢ Ok tt → number a ≢ 0
 not_done a k z = k ((number_done a).0 z)
 
 -- ---- the first row that applies

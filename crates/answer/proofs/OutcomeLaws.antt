@@ -4,11 +4,11 @@ use mathlib.Core.Logic.{◌⊎◌, inl, inr}
 use mathlib.Core.List.{[], ◌∷◌, ◌++◌}
 use Prim.Native.Nat.{ℕ}
 use native.Mathlib.Decide.{ℕ_discrete}
-use Rattle.answer.specs.declared.Answer.{Answer}
-use Rattle.answer.specs.declared.Answer.TheVariants.{Done}
-use Rattle.answer.specs.Answers.{number, Table, First}
+use Rattle.std.specs.Prelude.{Ok, Err}
+use Rattle.answer.specs.declared.Refusal.{Refusal}
+use Rattle.answer.specs.Answers.{Answer, number, Table, First}
 use Rattle.answer.specs.Outcome.{Outcome, Unnumbered}
-use Rattle.answer.proofs.AnswersLaws.{number_apart, first_one}
+use Rattle.answer.proofs.AnswersLaws.{number_apart, refused, first_one}
 
 -- ---- one outcome
 
@@ -30,6 +30,21 @@ module _ {A : Type 0} {T : Table} {kept : A} {Does : A → Type 0} (one : First 
   pub part_one : (x y : A) → Unnumbered T kept Does x → Unnumbered T kept Does y → x ≡ y
   part_one x y (j, p) (k, q) = (outcome_one j k x y p q).1
 
+-- ---- what a call hands on: a refusal leaves what was lent as it was, and says so whatever the call would have given
+
+pub err_like : (B C : Type 0) (r : Refusal) → number {A = B} (Err r) ≡ number {A = C} (Err r)
+unfolding number
+err_like B C r = refl
+
+pub outcome_refused : {A : Type 0} {T : Table} {kept : A} {Does : A → Type 0} (B C : Type 0) (r : Refusal) → First T (number {A = B} (Err r)) → Outcome T kept Does (number {A = C} (Err r)) kept
+outcome_refused B C r h =
+    record { answer = rw (err_like B C r) at h; refused = λ ne. refl; done = λ z. absurd (refused {A = C} refl z) }
+
+-- done, it is as it says
+pub outcome_given : {A B C : Type 0} {T : Table} {kept : A} {Does : A → Type 0} {x : A} (u : B) (v : C) → First T (number (Ok u)) → Does x → Outcome T kept Does (number (Ok v)) x
+unfolding number
+outcome_given u v h d = record { answer = h; refused = λ ne. absurd (ne refl); done = λ z. d }
+
 -- ---- some outcome
 
 -- each row has an answer of its number, and is decided where those before it do not apply
@@ -43,7 +58,7 @@ ready_append (row ∷ T) U (a, e, d, r) f = (a, e, d, (λ n. ready_append T U (r
 
 ready_answer : (T : Table) → Ready T → (a : Answer) × First T (number a)
 unfolding number
-ready_answer [] r = (Done, refl)
+ready_answer [] r = (Ok tt, refl)
 ready_answer (row ∷ T) (a, e, yes p, f) = (a, inl (p, e))
 ready_answer (row ∷ T) (a, e, no p, f) = let z = ready_answer T (f p) in (z.0, inr (p, z.1))
 

@@ -1,25 +1,33 @@
 -- REFUSAL NUMBERS (document 01, the table of that name). Definitions only.
-use Rattle.std.specs.Prelude.{◌≡◌, ◌⊎◌, List, [], ◌∷◌, ℕ, ◌<◌}
-use Rattle.answer.specs.declared.Answer.{Answer}
-use Rattle.answer.specs.declared.Answer.TheVariants.{Done, BadRows, BadColumns, BadSymbol, BadStripe, SmallWorkspace, NoSuchPlace, SameColumn, BadBuffer, Disagree, NoSuchStock, UnknownKind, BadRecord, BadPayload, NoShape}
+use Rattle.std.specs.Prelude.{◌≡◌, ◌⊎◌, List, [], ◌∷◌, ℕ, ◌<◌, Result, Ok, Err}
+use Rattle.answer.specs.declared.Refusal.{Refusal}
+use Rattle.answer.specs.declared.Refusal.TheVariants.{BadRows, BadColumns, BadSymbol, BadStripe, SmallWorkspace, NoSuchPlace, SameColumn, BadBuffer, Disagree, NoSuchStock, UnknownKind, BadRecord, BadPayload, NoShape}
 
--- the number of each answer; "0 means done"
-unfoldable pub number : Answer → ℕ
-number Done = 0
-number BadRows = 1
-number BadColumns = 2
-number BadSymbol = 3
-number BadStripe = 4
-number SmallWorkspace = 5
-number NoSuchPlace = 6
-number SameColumn = 7
-number BadBuffer = 8
-number Disagree = 9
-number NoSuchStock = 10
-number UnknownKind = 11
-number BadRecord = 12
-number BadPayload = 13
-number NoShape = 14
+-- the number of each refusal
+unfoldable pub refusal_number : Refusal → ℕ
+refusal_number BadRows = 1
+refusal_number BadColumns = 2
+refusal_number BadSymbol = 3
+refusal_number BadStripe = 4
+refusal_number SmallWorkspace = 5
+refusal_number NoSuchPlace = 6
+refusal_number SameColumn = 7
+refusal_number BadBuffer = 8
+refusal_number Disagree = 9
+refusal_number NoSuchStock = 10
+refusal_number UnknownKind = 11
+refusal_number BadRecord = 12
+refusal_number BadPayload = 13
+refusal_number NoShape = 14
+
+-- the number of an answer; "0 means done"
+unfoldable pub number : {A : Type 0} → Result A Refusal → ℕ
+number (Ok x) = 0
+number (Err r) = refusal_number r
+
+-- the answer of a call that gives nothing besides
+abbrev pub Answer : Type 0
+Answer = Result (Unit {0}) Refusal
 
 -- A call's table of refusals: numbers in the document's order, each with the condition under which it applies to the call.
 abbrev pub Table : Type 1

@@ -2,13 +2,11 @@
 #![tactic(auto)]
 
 ghost use Rattle.std.specs.Prelude.{◌≡◌};
-ghost use Rattle.answer.specs.Answers.{number};
+ghost use Rattle.answer.specs.Answers.{refusal_number, number};
 
-// The answer of a call: done, or why it was refused; in the order of the numbers 0 to 14.
-#[derive(Clone, Copy)]
-pub enum Answer {
-    // The call was done.
-    Done,
+// Why a call was refused; in the order of the numbers 1 to 14.
+#[derive(Clone, Copy, Debug, PartialEq, Eq)]
+pub enum Refusal {
     // m is outside its range.
     BadRows,
     // n is outside its range.
@@ -39,28 +37,41 @@ pub enum Answer {
     NoShape,
 }
 
-impl Answer {
-    // The number of the answer.
-    #[tactic(auto, unfolding(crate::specs::Answers::number))]
+// The answer of a call that gives nothing besides: done, or why it was refused.
+pub type Answer = Result<(), Refusal>;
+
+impl Refusal {
+    // The number of the refusal.
+    #[tactic(auto, unfolding(crate::specs::Answers::refusal_number))]
     pub fn number(self) -> usize
-        ensures { result ≡ number self }
+        ensures { result ≡ refusal_number self }
     {
         match self {
-            Answer::Done => 0,
-            Answer::BadRows => 1,
-            Answer::BadColumns => 2,
-            Answer::BadSymbol => 3,
-            Answer::BadStripe => 4,
-            Answer::SmallWorkspace => 5,
-            Answer::NoSuchPlace => 6,
-            Answer::SameColumn => 7,
-            Answer::BadBuffer => 8,
-            Answer::Disagree => 9,
-            Answer::NoSuchStock => 10,
-            Answer::UnknownKind => 11,
-            Answer::BadRecord => 12,
-            Answer::BadPayload => 13,
-            Answer::NoShape => 14,
+            Refusal::BadRows => 1,
+            Refusal::BadColumns => 2,
+            Refusal::BadSymbol => 3,
+            Refusal::BadStripe => 4,
+            Refusal::SmallWorkspace => 5,
+            Refusal::NoSuchPlace => 6,
+            Refusal::SameColumn => 7,
+            Refusal::BadBuffer => 8,
+            Refusal::Disagree => 9,
+            Refusal::NoSuchStock => 10,
+            Refusal::UnknownKind => 11,
+            Refusal::BadRecord => 12,
+            Refusal::BadPayload => 13,
+            Refusal::NoShape => 14,
         }
+    }
+}
+
+// The number of an answer: 0 where the call was done.
+#[tactic(auto, unfolding(crate::specs::Answers::number))]
+pub fn number<T: Copy>(answer: Result<T, Refusal>) -> usize
+    ensures { result ≡ number answer }
+{
+    match answer {
+        Ok(_) => 0,
+        Err(refusal) => refusal.number(),
     }
 }

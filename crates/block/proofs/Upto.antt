@@ -6,7 +6,7 @@ use native.Mathlib.Omega.{arith}
 use borrow.Author.Count.{below_more}
 use lib.ListN.{length, get_or, set, length-set}
 use lib.Seq.{get_or-set_same, get_or-set_other}
-use Rattle.block.specs.Block.{longest, Block}
+use Rattle.block.specs.Block.{Block}
 
 pub record Upto (f : ℕ → ℕ) (xs ys : List ℕ) (i : ℕ) : Type 0 where
   pub long : length ys ≡ length xs
@@ -24,5 +24,5 @@ upto_more {f} {xs} {ys} {i} u v e lt = record {
 }
 
 -- the loop is done: a block
-pub upto_block : {f : ℕ → ℕ} {xs ys : List ℕ} {i : ℕ} → Upto f xs ys i → length xs ≡ longest → (len : ℕ) → len ≤ i → Block f len ys
-upto_block u whole len le = record { whole = u.long ∙ whole; at = λ t l. u.at t (omega arith) }
+pub upto_block : {f : ℕ → ℕ} {xs ys : List ℕ} {i len : ℕ} → Upto f xs ys i → length xs ≡ len → len ≤ i → Block f len ys
+upto_block u whole le = record { whole = u.long ∙ whole; at = λ t l. u.at t (omega arith) }

@@ -7,15 +7,20 @@ use native.Mathlib.Omega.{arith}
 use native.Mathlib.Decide.{ℕ_discrete}
 use denote.Ref.{Bor}
 use lib.ListN.{length}
-use Rattle.answer.specs.declared.Answer.{Answer}
-use Rattle.answer.specs.Answers.{number}
+use Rattle.std.specs.Prelude.{Result}
+use Rattle.answer.specs.declared.Refusal.{Refusal}
+use Rattle.answer.specs.Answers.{Answer, number}
+use Rattle.shape.specs.declared.Shape.{Shape}
 use Rattle.shape.specs.Own.{PartOf}
 use Rattle.rule.specs.Losses.{Lost}
 use Rattle.rule.proofs.Reading.{lost?}
 use Rattle.checking.specs.declared.Checked.{Checked}
-use Rattle.locating.specs.declared.Located.{Located}
+use Rattle.checking.specs.Check.{counts}
+use Rattle.locating.specs.declared.Damage.{Damage}
+use Rattle.locating.specs.Locate.{finding}
 use Rattle.stock.specs.declared.Priced.{Priced}
-use Rattle.stock.specs.declared.Stocked.{Stocked}
+use Rattle.stock.specs.Prices.{figures}
+use Rattle.stock.specs.Stock.{shape_given}
 use Rattle.encoding.proofs.EncodeLaws.{encode_one}
 use Rattle.checking.proofs.CheckLaws.{check_one}
 use Rattle.locating.proofs.LocateLaws.{locate_one}
@@ -27,7 +32,7 @@ use Rattle.handing.proofs.ColumnLaws.{column_one}
 use Rattle.rebuild.proofs.RebuildLaws.{rebuild_one}
 use Rattle.filling.proofs.FillLaws.{fill_one}
 use Rattle.filling.proofs.ChooseLaws.{choose_one}
-use Rattle.capi.specs.Told.{Numbered, finding}
+use Rattle.capi.specs.Told.{Numbered}
 use Rattle.capi.specs.OneAnswer.{OneTold, OneEncode, OneCheck, OneLocate, OneSmallWrite, OneRawStore, OneFill, OneRebuild, OneColumn, OneChoose, OnePrices, OneStock}
 
 -- ---- an answer alone
@@ -56,29 +61,29 @@ one_rebuild sh lost s room r q x y u v (a, p, i) (b, o, j) =
 pub one_check : OneCheck
 one_check sh s r q x y u v =
     let e = check_one sh s u.report v.report u.is v.is in (
-      u.answers ∙ ap (λ (z : Checked). number z.answer) e ∙ sym v.answers,
-      u.holds ∙ ap (λ (z : Checked). z.broken ∷ z.bits ∷ []) e ∙ sym v.holds,
+      u.answers ∙ ap number e ∙ sym v.answers,
+      u.holds ∙ ap (λ (z : Result Checked Refusal). (counts z).0 ∷ (counts z).1 ∷ []) e ∙ sym v.holds,
     )
 
 pub one_locate : OneLocate
 one_locate sh s r q x y u v =
     let e = locate_one sh s u.report v.report u.is v.is in (
-      u.answers ∙ ap (λ (z : Located). number z.answer) e ∙ sym v.answers,
-      u.holds ∙ ap (λ (z : Located). finding z.damage) e ∙ sym v.holds,
+      u.answers ∙ ap number e ∙ sym v.answers,
+      u.holds ∙ ap (λ (z : Result Damage Refusal). (finding z).0 ∷ (finding z).1 ∷ []) e ∙ sym v.holds,
     )
 
 pub one_prices : OnePrices
 one_prices sh r q x y u v =
     let e = prices_one sh u.report v.report u.is v.is in (
-      u.answers ∙ ap (λ (z : Priced). number z.answer) e ∙ sym v.answers,
-      u.holds ∙ ap (λ (z : Priced). z.encode ∷ z.one ∷ z.two ∷ z.reads ∷ []) e ∙ sym v.holds,
+      u.answers ∙ ap number e ∙ sym v.answers,
+      u.holds ∙ ap (λ (z : Result Priced Refusal). (figures z).0 ∷ (figures z).1 ∷ (figures z).2 ∷ (figures z).3 ∷ []) e ∙ sym v.holds,
     )
 
 pub one_stock : OneStock
 one_stock i r q x y u v =
     let e = stock_one i u.report v.report u.is v.is in (
-      u.answers ∙ ap (λ (z : Stocked). number z.answer) e ∙ sym v.answers,
-      u.holds ∙ ap (λ (z : Stocked). z.shape.m ∷ z.shape.n ∷ z.shape.w ∷ []) e ∙ sym v.holds,
+      u.answers ∙ ap number e ∙ sym v.answers,
+      u.holds ∙ ap (λ (z : Result Shape Refusal). (shape_given z).m ∷ (shape_given z).n ∷ (shape_given z).w ∷ []) e ∙ sym v.holds,
     )
 
 -- ---- a part

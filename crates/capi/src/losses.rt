@@ -6,6 +6,7 @@ ghost use Rattle.filling.specs.Fill.{Fill};
 ghost use Rattle.capi.specs.Told.{Numbered, RebuildTold};
 ghost use Rattle.capi.specs.Lies.{ChooseTold};
 
+use answer::number;
 use filling::{choose, fill};
 use rebuild::rebuild;
 use rule::{is_lost, named};
@@ -25,8 +26,7 @@ pub fn bangsorut_rebuild(
     ensures { RebuildTold (shape m n w) (named count a b) stripe.old (length workspace.old) result stripe.new workspace.new }
 {
     let lost = named(count, a, b);
-    let answer = rebuild(Shape { m: m, n: n, w: w }, lost, stripe, workspace);
-    answer.number()
+    number(rebuild(Shape { m, n, w }, lost, stripe, workspace))
 }
 
 // Puts the wanted column, if it is lost, into the answer buffer.
@@ -44,11 +44,11 @@ pub fn bangsorut_fill(
     ensures { Numbered (Fill (shape m n w) stripe.now (named count a b) wanted buffer.old) result buffer.new }
 {
     let lost = named(count, a, b);
-    let answer = fill(Shape { m: m, n: n, w: w }, stripe, lost, wanted, buffer);
-    answer.number()
+    number(fill(Shape { m, n, w }, stripe, lost, wanted, buffer))
 }
 
-// Where the wanted column lies: 0 in the stripe or 1 in the answer buffer, its start there and its length; zeros where fill is refused.
+// Where the wanted column lies: 0 in the stripe or 1 in the answer buffer, its start there and its length; zeros
+// where fill is refused.
 pub fn bangsorut_choose<'a>(
     m: usize,
     n: usize,
@@ -64,7 +64,7 @@ pub fn bangsorut_choose<'a>(
     ensures { ChooseTold (shape m n w) stripe.entry (named count a b) wanted buffer.entry part.new }
 {
     let lost = named(count, a, b);
-    let handed = choose(Shape { m: m, n: n, w: w }, stripe, lost, wanted, buffer);
+    let handed = choose(Shape { m, n, w }, stripe, lost, wanted, buffer);
     let length = handed.len();
     if length == 0 {
         *part = [0, 0, 0];

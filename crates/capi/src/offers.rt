@@ -2,6 +2,7 @@
 ghost use Rattle.shape.specs.Good.{shape};
 ghost use Rattle.capi.specs.Told.{PricesTold, StockTold};
 
+use answer::number;
 use shape::Shape;
 use stock::{prices, stock};
 
@@ -9,10 +10,12 @@ use stock::{prices, stock};
 pub fn bangsorut_prices(m: usize, n: usize, w: usize, list: &mut [usize; 4]) -> usize
     ensures { PricesTold (shape m n w) result list.new }
 {
-    let report = prices(Shape { m: m, n: n, w: w });
-    *list = [report.encode, report.one, report.two, report.reads];
-    let answer = report.answer;
-    answer.number()
+    let report = prices(Shape { m, n, w });
+    *list = match report {
+        Ok(list) => [list.encode, list.one, list.two, list.reads],
+        Err(_) => [0, 0, 0, 0],
+    };
+    number(report)
 }
 
 // The stock shape of a number: m, n and w.
@@ -20,8 +23,9 @@ pub fn bangsorut_stock(which: usize, measures: &mut [usize; 3]) -> usize
     ensures { StockTold which result measures.new }
 {
     let report = stock(which);
-    let shape = report.shape;
-    *measures = [shape.m, shape.n, shape.w];
-    let answer = report.answer;
-    answer.number()
+    *measures = match report {
+        Ok(Shape { m, n, w }) => [m, n, w],
+        Err(_) => [0, 0, 0],
+    };
+    number(report)
 }

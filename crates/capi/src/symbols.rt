@@ -5,6 +5,7 @@ ghost use Rattle.storing.specs.Store.{RawStore};
 ghost use Rattle.capi.specs.Told.{Numbered};
 ghost use Rattle.capi.specs.Lies.{ColumnTold};
 
+use answer::number;
 use shape::Shape;
 use storing::raw_store;
 use writing::small_write;
@@ -21,8 +22,7 @@ pub fn bangsorut_small_write(
 ) -> usize
     ensures { Numbered (SmallWrite (shape m n w) stripe.old column row symbol.now) result stripe.new }
 {
-    let answer = small_write(Shape { m: m, n: n, w: w }, stripe, column, row, symbol);
-    answer.number()
+    number(small_write(Shape { m, n, w }, stripe, column, row, symbol))
 }
 
 // Replaces the symbol of any row, and leaves the parity as it is.
@@ -37,8 +37,7 @@ pub fn bangsorut_raw_store(
 ) -> usize
     ensures { Numbered (RawStore (shape m n w) stripe.old column row symbol.now) result stripe.new }
 {
-    let answer = raw_store(Shape { m: m, n: n, w: w }, stripe, column, row, symbol);
-    answer.number()
+    number(raw_store(Shape { m, n, w }, stripe, column, row, symbol))
 }
 
 // Where in the stripe a column lies: its start and its length, zeros where the request is refused.
@@ -52,7 +51,7 @@ pub fn bangsorut_column(
 )
     ensures { ColumnTold (shape m n w) stripe.entry column part.new }
 {
-    let handed = handing::column(Shape { m: m, n: n, w: w }, stripe, column);
+    let handed = handing::column(Shape { m, n, w }, stripe, column);
     let length = handed.len();
     *part = [column * length, length];
 }

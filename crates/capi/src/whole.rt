@@ -1,20 +1,19 @@
 // The calls on a whole stripe: encode, check, locate.
-ghost use Rattle.std.specs.Prelude.{◌≡◌};
 ghost use Rattle.shape.specs.Good.{shape};
 ghost use Rattle.encoding.specs.Encode.{Encode};
-ghost use Rattle.capi.specs.Told.{Numbered, CheckTold, LocateTold, finding};
+ghost use Rattle.capi.specs.Told.{Numbered, CheckTold, LocateTold};
 
-use checking::check;
+use answer::number;
+use checking::{Checked, check};
 use encoding::encode;
-use locating::{Damage, locate};
+use locating::locate;
 use shape::Shape;
 
 // Sets every parity symbol of the stripe.
 pub fn bangsorut_encode(m: usize, n: usize, w: usize, stripe: &mut [u8]) -> usize
     ensures { Numbered (Encode (shape m n w) stripe.old) result stripe.new }
 {
-    let answer = encode(Shape { m: m, n: n, w: w }, stripe);
-    answer.number()
+    number(encode(Shape { m, n, w }, stripe))
 }
 
 // How many chains of the stripe are broken, and by how many bits in all.
@@ -27,24 +26,16 @@ pub fn bangsorut_check(
 ) -> usize
     ensures { CheckTold (shape m n w) stripe.now result counts.new }
 {
-    let report = check(Shape { m: m, n: n, w: w }, stripe);
-    *counts = [report.broken, report.bits];
-    let answer = report.answer;
-    answer.number()
+    let report = check(Shape { m, n, w }, stripe);
+    *counts = match report {
+        Ok(Checked { broken, bits }) => [broken, bits],
+        Err(_) => [0, 0],
+    };
+    number(report)
 }
 
-// What was found, in two numbers: 0 sound, 1 one column, 2 more; and the column, or 0.
-fn numbers(damage: Damage) -> [usize; 2]
-    ensures { result ≡ finding damage }
-{
-    match damage {
-        Damage::Sound => [0, 0],
-        Damage::Column(c) => [1, c],
-        Damage::Several => [2, 0],
-    }
-}
-
-// Which column of the stripe, if any, explains every chain that is broken.
+// Which column of the stripe, if any, explains every chain that is broken: 0 sound, 1 one column, 2 more; and the
+// column, or 0.
 pub fn bangsorut_locate(
     m: usize,
     n: usize,
@@ -54,9 +45,11 @@ pub fn bangsorut_locate(
 ) -> usize
     ensures { LocateTold (shape m n w) stripe.now result found.new }
 {
-    let report = locate(Shape { m: m, n: n, w: w }, stripe);
-    let damage = report.damage;
-    *found = numbers(damage);
-    let answer = report.answer;
-    answer.number()
+    let report = locate(Shape { m, n, w }, stripe);
+    let (kind, column) = match report {
+        Ok(damage) => damage.numbers(),
+        Err(_) => (0, 0),
+    };
+    *found = [kind, column];
+    number(report)
 }

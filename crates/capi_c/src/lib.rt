@@ -1,4 +1,5 @@
-// The exports for C: each is the function of capi that has its name, under the same promise. No crate can stand on a static library, so capi is apart.
+// The exports for C: each is the function of capi that has its name, under the same promise. No crate can stand on a
+// static library, so capi is apart.
 #![tactic(auto)]
 
 ghost use Rattle.std.specs.Prelude.{length};
@@ -129,7 +130,8 @@ pub extern "C" fn bangsorut_fill(
     capi::bangsorut_fill(m, n, w, stripe, count, a, b, wanted, buffer)
 }
 
-// Where the wanted column lies: 0 in the stripe or 1 in the answer buffer, its start there and its length; zeros where fill is refused.
+// Where the wanted column lies: 0 in the stripe or 1 in the answer buffer, its start there and its length; zeros
+// where fill is refused.
 #[unsafe(no_mangle)]
 pub extern "C" fn bangsorut_choose<'a>(
     m: usize,

@@ -1,7 +1,6 @@
 -- ALONG A CHAIN: what the code of the calls leaves in a block. Definitions only.
 use Rattle.std.specs.Prelude.{◌≡◌, List, ℕ, ◌+◌, ◌-◌, ◌≤◌, ◌<◌, length, get_or}
 use Rattle.xor.specs.Xor.{◌⊕◌, xors}
-use Rattle.block.specs.Block.{longest}
 use Rattle.shape.specs.declared.Shape.{Shape}
 use Rattle.shape.specs.Good.{Good, size}
 use Rattle.shape.specs.Place.{byte}
@@ -12,11 +11,10 @@ use Rattle.rule.specs.Rule.{Grid}
 abbrev pub two : ℕ → Grid → ℕ → ℕ → ℕ
 two n X p d = X d (left n p d) ⊕ X d (right n p d)
 
--- len bytes of each symbol of a stripe from byte `from` on, at most a block
+-- len bytes of each symbol of a stripe, from byte `from` on
 pub record Part (sh : Shape) (s : List ℕ) (from len : ℕ) : Type 0 where
   pub good : Good sh
   pub whole : length s ≡ size sh
-  pub block : len ≤ longest
   pub inside : from + len ≤ sh.w
 
 -- the heights a to b - 1 of chain p are added to the first len bytes: what was v XOR the sum below a is v XOR the sum below b

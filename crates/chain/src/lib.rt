@@ -2,10 +2,10 @@
 // Every call that computes a parity goes through `others` or `difference`; nothing else walks a chain.
 #![tactic(auto)]
 
-ghost use Rattle.std.specs.Prelude.{ℕ, ◌+◌, ◌<◌, ◌≡◌, length};
-ghost use Rattle.block.specs.Block.{longest, Block};
+ghost use Rattle.std.specs.Prelude.{◌≡◌, ℕ, ◌+◌, length};
+ghost use Rattle.block.specs.Block.{Block};
 ghost use Rattle.shape.specs.Place.{byte};
-ghost use Rattle.walking.specs.Walk.{Ways, Walks};
+ghost use Rattle.walking.specs.Walk.{Ways};
 ghost use Rattle.rule.specs.Rule.{others, differs};
 ghost use Rattle.chain.specs.Chain.{Part, Ran};
 
@@ -13,8 +13,8 @@ use shape::Shape;
 use walking::Walk;
 
 // Adds into acc the two symbols of each height from start to end - 1, in the columns l and r at height `base` and a column further apart each height.
-fn run(
-    acc: &mut [u8; 128],
+fn run<const LEN: usize>(
+    acc: &mut [u8; LEN],
     sh: Shape,
     s: &[u8],
     l: usize,
@@ -23,53 +23,53 @@ fn run(
     from: usize,
     start: usize,
     end: usize,
-    len: usize,
 )
-    requires { (Part sh s.now from len) × ((p : ℕ) × Ways sh p l r base start end) × (length acc.old ≡ longest) }
-    ensures { ((p : ℕ) → Ways sh p l r base start end → Ran sh s.now p start end from len acc.old acc.new) × (length acc.new ≡ longest) }
+    requires part { Part sh s.now from LEN }
+    requires ways { (p : ℕ) × Ways sh p l r base start end }
+    ensures ran { (p : ℕ) → Ways sh p l r base start end → Ran sh s.now p start end from LEN acc.old acc.new }
+    ensures whole { length acc.new ≡ LEN }
 {
-    let mut d = start;
-    while d < end {
+    for d in start..end {
         let further = d - base;
         block::pair(
             acc,
             s,
             sh.place(d, l - further) + from,
             sh.place(d, r + further) + from,
-            len,
         );
-        d += 1;
     }
 }
 
 // Adds into acc the symbols below the top height: those without a wrap, then those with one.
-fn below(acc: &mut [u8; 128], sh: Shape, s: &[u8], wk: Walk, from: usize, len: usize)
-    requires { (Part sh s.now from len) × (Walks sh wk.p wk) × (length acc.old ≡ longest) }
-    ensures { (Ran sh s.now wk.p 1 wk.top from len acc.old acc.new) × (length acc.new ≡ longest) }
+fn below<const LEN: usize>(acc: &mut [u8; LEN], s: &[u8], wk: Walk, from: usize)
+    requires { Part wk.shape s.now from LEN }
+    ensures ran { Ran wk.shape s.now wk.p 1 wk.top from LEN acc.old acc.new }
+    ensures whole { length acc.new ≡ LEN }
 {
-    run(acc, sh, s, wk.p, wk.p, 0, from, 1, wk.end, len);
-    run(acc, sh, s, wk.l, wk.r, wk.end, from, wk.end, wk.top, len);
+    run(acc, wk.shape, s, wk.p, wk.p, 0, from, 1, wk.end);
+    run(acc, wk.shape, s, wk.l, wk.r, wk.end, from, wk.end, wk.top);
 }
 
-// The XOR of the information symbols of the chain that wk walks: len bytes from `from` on; whoever calls it stays within a good shape's stripe and a block.
-pub fn others(sh: Shape, s: &[u8], wk: Walk, from: usize, len: usize) -> [u8; 128]
-    requires { (Part sh s.now from len) × (Walks sh wk.p wk) }
-    ensures { Block (λ t. others sh.m sh.n (byte sh s.now (from + t)) wk.p) len result }
+// The XOR of the information symbols of a chain: their bytes from `from` on; whoever calls it stays within the stripe and its symbols.
+// The hint keeps the block in registers where it is stored.
+#[inline]
+pub fn others<const LEN: usize>(s: &[u8], wk: Walk, from: usize) -> [u8; LEN]
+    requires { Part wk.shape s.now from LEN }
+    ensures { Block (λ t. others wk.shape.m wk.shape.n (byte wk.shape s.now (from + t)) wk.p) LEN result }
 {
-    let mut acc = [0u8; 128];
-    block::both(&mut acc, s, wk.x + from, s, wk.y + from, len);
-    below(&mut acc, sh, s, wk, from, len);
+    let mut acc = block::both(s, wk.x + from, s, wk.y + from);
+    below(&mut acc, s, wk, from);
     acc
 }
 
-// What that chain differs by, stored XOR computed parity: as `others`, with the parity symbol added before the heights below the top.
-pub fn difference(sh: Shape, s: &[u8], wk: Walk, from: usize, len: usize) -> [u8; 128]
-    requires { (Part sh s.now from len) × (Walks sh wk.p wk) }
-    ensures { Block (λ t. differs sh s.now wk.p (from + t)) len result }
+// What a chain differs by, stored XOR computed parity: as `others`, with the parity symbol added before the heights below the top.
+#[inline(always)]
+pub fn difference<const LEN: usize>(s: &[u8], wk: Walk, from: usize) -> [u8; LEN]
+    requires { Part wk.shape s.now from LEN }
+    ensures { Block (λ t. differs wk.shape s.now wk.p (from + t)) LEN result }
 {
-    let mut acc = [0u8; 128];
-    block::both(&mut acc, s, wk.x + from, s, wk.y + from, len);
-    block::add(&mut acc, s, wk.at + from, len);
-    below(&mut acc, sh, s, wk, from, len);
+    let mut acc = block::both(s, wk.x + from, s, wk.y + from);
+    block::add(&mut acc, s, wk.at + from);
+    below(&mut acc, s, wk, from);
     acc
 }

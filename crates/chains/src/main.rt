@@ -1,13 +1,14 @@
-// A picture for people: it reads m, n and perhaps p as words of standard input, and prints the stripe as a grid with chain p marked, or with each chain in turn.
-// What cannot be drawn gets one sentence on standard error instead.
+// A picture for people: it reads m, n and perhaps p as words of standard input, and prints the stripe as a grid with
+// chain p marked, or with each chain in turn. What cannot be drawn gets one sentence on standard error instead.
 #![tactic(auto)]
 
 ghost use Rattle.shape.specs.Good.{Good};
 ghost use Rattle.words.specs.Words.{Refused};
 
 use crate::picture::{every, picture};
-use answer::Answer;
+use answer::Refusal;
 use shape::Shape;
+use std::io::{Result, Write};
 use words::{bytes, next_word, number};
 
 mod picture;
@@ -16,80 +17,81 @@ mod picture;
 const ROOM: usize = 4096;
 
 // Says how the input is other than two or three words.
-fn miscounted(so: &[u8]) {
-    io::write_all(2, so);
-    io::write_all(
-        2,
-        b": m and n are needed, and p may follow for one chain alone.\n",
-    );
+fn miscounted(rt: &impl Eprint, so: &str) -> Result<()> {
+    eprintln!(rt; "{so}: m and n are needed, and p may follow for one chain alone.")
 }
 
-// Says of m, n or p what it is and what it has to be.
-fn refuse(name: &[u8], word: &[u8], least: usize, most: usize, end: &[u8])
+// Says of m, n or p what it is and what it has to be. The word goes out as it is, since it may be no text.
+fn refuse(
+    rt: &HostRuntime,
+    name: &str,
+    word: &[u8],
+    least: usize,
+    most: usize,
+    end: &str,
+) -> Result<()>
     requires { Refused word.now least most }
 {
-    io::write_all(2, name);
-    io::write_all(2, b" is ");
-    io::write_all(2, word);
-    io::write_all(2, b", but it has to be a whole number from ");
-    io::print_decimal(2, least as u64);
-    io::write_all(2, b" to ");
-    io::print_decimal(2, most as u64);
-    io::write_all(2, end);
+    eprint!(rt; "{name} is ")?;
+    rt.stderr().write_all(word)?;
+    eprintln!(rt; ", but it has to be a whole number from {least} to {most}{end}.")
 }
 
-// Prints the chain that a word names, or every chain where it is empty.
-fn chains(shape: Shape, word: &[u8])
+// Prints the chain that a word names, or every chain where there is no word.
+fn chains(rt: &HostRuntime, shape: Shape, word: Option<&[u8]>) -> Result<()>
     requires { Good shape }
 {
-    if word.len() == 0 {
-        every(shape);
-        return;
+    let Some(word) = word else {
+        return every(rt, shape);
+    };
+    match number(word) {
+        Some(p) if p < shape.n => picture(rt, shape, p),
+        _ => refuse(rt, "p", word, 0, shape.n - 1, " with this n"),
     }
-    let p = number(word);
-    if p < shape.n {
-        picture(shape, p);
-        return;
-    }
-    refuse(b"p", word, 0, shape.n - 1, b" with this n.\n");
 }
 
-// Prints what three words ask for. No symbol is looked at, so each is a byte, and nothing but m and n can be refused.
-fn draw(first: &[u8], second: &[u8], third: &[u8]) {
-    let m = number(first);
-    let n = number(second);
-    let shape = Shape { m: m, n: n, w: 1 };
-    match shape.refusal() {
-        Answer::Done => chains(shape, third),
-        Answer::BadRows => refuse(b"m", first, 2, 16, b".\n"),
-        Answer::BadColumns => refuse(b"n", second, 4 * m - 3, 64, b" with this m.\n"),
-        _ => {}
+// Prints what the words ask for. A word that spells no number counts as 0, which is refused as well.
+// No symbol is looked at, so each is a byte, and nothing but m and n can be refused.
+fn draw(rt: &HostRuntime, first: &[u8], second: &[u8], third: Option<&[u8]>) -> Result<()> {
+    let m = number(first).unwrap_or(0);
+    let n = number(second).unwrap_or(0);
+    let shape = Shape { m, n, w: 1 };
+    match shape.accept() {
+        Ok(()) => chains(rt, shape, third),
+        Err(Refusal::BadRows) => refuse(rt, "m", first, 2, 16, ""),
+        Err(Refusal::BadColumns) => refuse(rt, "n", second, 4 * m - 3, 64, " with this m"),
+        Err(_) => Ok(()),
     }
 }
 
 // Takes a text apart into its words, of which the third may be missing.
-fn answer(text: &[u8]) {
-    let first = next_word(text, 0);
-    let second = next_word(text, first.end);
+fn answer(rt: &HostRuntime, text: &[u8]) -> Result<()> {
+    let Some(first) = next_word(text, 0) else {
+        return miscounted(rt, "Too few words");
+    };
+    let Some(second) = next_word(text, first.end) else {
+        return miscounted(rt, "Too few words");
+    };
     let third = next_word(text, second.end);
-    let fourth = next_word(text, third.end);
-    if second.start == second.end {
-        miscounted(b"Too few words");
-        return;
+    let Some(last) = third else {
+        return draw(rt, bytes(text, first), bytes(text, second), None);
+    };
+    if next_word(text, last.end).is_some() {
+        return miscounted(rt, "Too many words");
     }
-    if fourth.start < fourth.end {
-        miscounted(b"Too many words");
-        return;
-    }
-    draw(bytes(text, first), bytes(text, second), bytes(text, third));
+    draw(
+        rt,
+        bytes(text, first),
+        bytes(text, second),
+        Some(bytes(text, last)),
+    )
 }
 
-fn main() {
+fn main(rt: HostRuntime) -> Result<()> {
     let mut buffer = io::buffer();
     let count = io::read_full(0, &mut buffer);
     if count == ROOM {
-        miscounted(b"Too long a line");
-        return;
+        return miscounted(&rt, "Too long a line");
     }
-    answer(&buffer[..count]);
+    answer(&rt, &buffer[..count])
 }

@@ -7,22 +7,42 @@ use Prim.Native.Nat.{ℕ, zero, suc, ◌+◌, ◌<◌}
 use native.Mathlib.Omega.{arith}
 use native.Mathlib.Decide.{ℕ_discrete}
 use borrow.Author.Tests.{eqb-true, eq-eqb, not-false}
+use Rattle.std.specs.Prelude.{Result, Ok, Err}
 use Rattle.shape.specs.declared.Shape.{Shape}
-use Rattle.answer.proofs.OutcomeLaws.{call_one, call_some}
+use Rattle.answer.specs.declared.Refusal.{Refusal}
+use Rattle.answer.specs.Answers.{Answer, number}
+use Rattle.answer.specs.Outcome.{Outcome}
+use Rattle.answer.proofs.AnswersLaws.{number_apart, refused}
+use Rattle.answer.proofs.OutcomeLaws.{outcome_one, call_some}
+use Rattle.shape.specs.Refusals.{stripe_table}
 use Rattle.shape.proofs.Ready.{stripe_ready}
 use Rattle.rule.specs.Rule.{Obeys}
 use Rattle.rule.proofs.RuleLaws.{obeys_differs}
 use Rattle.checking.specs.declared.Checked.{Checked}
-use Rattle.checking.specs.Check.{some, count, breaks, broken_chains, Check}
+use Rattle.checking.specs.Check.{some, count, breaks, broken_chains, differing_bits, counts, Check}
 
-pub check_one : (sh : Shape) (s : List ℕ) (a b : Checked) → Check sh s a → Check sh s b → a ≡ b
+-- two reports with the same numbers are the same
+report_apart : (a b : Result Checked Refusal) → number a ≡ number b → counts a ≡ counts b → a ≡ b
+unfolding number
+report_apart (Ok x) (Ok y) e f = λ i. Ok (record { broken = (f i).0; bits = (f i).1 })
+report_apart (Ok x) (Err r) e f = absurd (refused {A = Checked} {x = Err r} refl (sym e))
+report_apart (Err q) (Ok y) e f = absurd (refused {A = Checked} {x = Err q} refl e)
+report_apart (Err q) (Err r) e f =
+    let h : ◌≡◌ {A = Answer} (Err q) (Err r) = number_apart (Err q) (Err r) e in
+    let k : q ≡ r = cc in ap Err k
+
+pub check_one : (sh : Shape) (s : List ℕ) (a b : Result Checked Refusal) → Check sh s a → Check sh s b → a ≡ b
 check_one sh s a b p q =
-    let (e, f) = call_one (λ h x y u v. u ∙ sym v) a.answer b.answer (a.broken, a.bits) (b.broken, b.bits) p q in
-    λ i. record { answer = e i; broken = (f i).0; bits = (f i).1 }
+    let (e, f) = outcome_one (λ h x y u v. u ∙ sym v) (number a) (number b) (counts a) (counts b) p q in report_apart a b e f
 
-pub check_some : (sh : Shape) (s : List ℕ) → (r : Checked) × Check sh s r
-check_some sh s =
-    let (a, x, h) = call_some {A = ℕ × ℕ} (0, 0) _ (stripe_ready sh s) (λ h. (_, refl)) in (record { answer = a; broken = x.0; bits = x.1 }, h)
+pub check_some : (sh : Shape) (s : List ℕ) → (r : Result Checked Refusal) × Check sh s r
+unfolding number
+check_some sh s = let (a, x, h) = call_some {A = ℕ × ℕ} (0, 0) _ (stripe_ready sh s) (λ h. (_, refl)) in at a x h
+  where
+    at : (a : Answer) (x : ℕ × ℕ) → Outcome (stripe_table sh s) (0, 0) (λ (x : ℕ × ℕ). x ≡ (broken_chains sh s, differing_bits sh s)) (number a) x
+        → (r : Result Checked Refusal) × Check sh s r
+    at (Ok u) x h = (Ok (record { broken = x.0; bits = x.1 }), h)
+    at (Err r) x h = (Err r, record { answer = h.answer; refused = λ ne. refl; done = λ z. absurd (refused {A = Checked} {x = Err r} refl z) })
 
 -- ---- none of them
 

@@ -1,5 +1,5 @@
 -- How check counts, in the code's own words: a block more of a chain's bits, and a chain more.
--- To cite: counts_of and bits_then for the blocks; count_start, chain_sound, chain_broken and bits_more for the chains.
+-- To cite: counts_of and bits_then for the blocks; count_start, chain_sound, chain_broken and bits_more for the chains; bits_front and bits_at to read them.
 use mathlib.Core.Path.{◌≡◌, refl, sym, ap, ap₂, ◌∙◌, subst}
 use mathlib.Core.Logic.{◌≢◌}
 use mathlib.Core.Bool.{Bool, true, false, not, cond}
@@ -10,7 +10,8 @@ use native.Mathlib.Omega.{arith}
 use borrow.Author.Tests.{eqb-true, eq-eqb, not-false}
 use borrow.Author.Count.{below_more}
 use lib.Count.{ones}
-use lib.ListN.{length, get_or, set}
+use lib.ListN.{length, get_or, set, take}
+use Rattle.std.proofs.lemmas.List.{length-take, length-take-le, get_or-take}
 use lib.Seq.{get_or-set_same, get_or-set_other}
 use Rattle.xor.specs.Total.{total}
 use Rattle.xor.proofs.TotalLaws.{total_join, total_zero}
@@ -18,7 +19,7 @@ use Rattle.looking.proofs.OnesLaws.{ones_zero, ones_none, total_clear}
 use Rattle.shape.specs.declared.Shape.{Shape}
 use Rattle.rule.specs.Rule.{differs}
 use Rattle.checking.specs.Check.{count, breaks, chain_bits}
-use Rattle.checking.specs.Bits.{Counts, Chain}
+use Rattle.checking.specs.Bits.{Counts, Chain, Bits}
 use Rattle.checking.proofs.CheckLaws.{some_false}
 
 -- ---- one test more
@@ -81,3 +82,12 @@ module _ (sh : Shape) (s : List ℕ) where
       below_more (λ q. Chain sh s q (get_or (set xs p v) q 0)) p
       (λ q k. subst (Chain sh s q) (sym (get_or-set_other xs p q v 0 (λ e. omega arith))) (all q k))
       (subst (Chain sh s p) (sym (get_or-set_same xs p v 0 l)) h)
+
+  -- the bits of the chains of the shape, which are the front of the list
+  module _ (xs : List ℕ) (bits : Bits sh s xs) where
+    pub bits_front : sh.n ≤ 64 → length (take sh.n xs) ≡ sh.n
+    bits_front few = length-take-le sh.n xs (omega (arith, bits.whole))
+
+    pub bits_at : (p : ℕ) → p < length (take sh.n xs) → Chain sh s p (get_or (take sh.n xs) p 0)
+    bits_at p h =
+        let k : p < sh.n = omega (arith, length-take sh.n xs) in subst (Chain sh s p) (sym (get_or-take sh.n xs p 0 k)) (bits.at p k)

@@ -1,8 +1,9 @@
 -- CHECK (document 01): of the stripe s, which it leaves as it is. Definitions only.
-use Rattle.std.specs.Prelude.{◌≡◌, Bool, false, not, cond, ◌||◌, List, ℕ, zero, suc, ◌+◌, eqb}
+use Rattle.std.specs.Prelude.{◌≡◌, Bool, false, not, cond, ◌||◌, List, ℕ, zero, suc, ◌+◌, eqb, Result, Ok, Err}
 use Rattle.std.specs.Int.Count.{ones}
 use Rattle.xor.specs.Total.{total}
 use Rattle.shape.specs.declared.Shape.{Shape}
+use Rattle.answer.specs.declared.Refusal.{Refusal}
 use Rattle.answer.specs.Answers.{number}
 use Rattle.shape.specs.Refusals.{stripe_table}
 use Rattle.answer.specs.Outcome.{Outcome}
@@ -32,6 +33,10 @@ chain_bits sh s p = total sh.w (λ t. ones (differs sh s p t))
 unfoldable pub differing_bits : Shape → List ℕ → ℕ
 differing_bits sh s = total sh.n (chain_bits sh s)
 
-abbrev pub Check : Shape → List ℕ → Checked → Type 0
-Check sh s r =
-    Outcome (stripe_table sh s) (0, 0) (λ (x : ℕ × ℕ). x ≡ (broken_chains sh s, differing_bits sh s)) (number r.answer) (r.broken, r.bits)
+-- the two numbers of a report, broken chains and differing bits; those of a refused call are 0
+abbrev pub counts : Result Checked Refusal → ℕ × ℕ
+counts (Ok report) = (report.broken, report.bits)
+counts (Err refusal) = (0, 0)
+
+abbrev pub Check : Shape → List ℕ → Result Checked Refusal → Type 0
+Check sh s r = Outcome (stripe_table sh s) (0, 0) (λ (x : ℕ × ℕ). x ≡ (broken_chains sh s, differing_bits sh s)) (number r) (counts r)

@@ -41,10 +41,8 @@ pub fn commit(stripe: &mut [u8], work: &[u8], x: Gone, count: usize)
     requires { (Stageable x stripe.old work.now) × (Led x) × (count ≤ stores_in_all x) }
     ensures { Made x work.now count stripe.old stripe.new }
 {
-    let mut k = 0;
-    while k < count {
+    for k in 0..count {
         store_one(stripe, work, x, k);
-        k += 1;
     }
 }
 

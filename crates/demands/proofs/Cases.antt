@@ -9,13 +9,14 @@ use lib.Count.{ones}
 use Rattle.xor.specs.Xor.{◌⊕◌, xors}
 use Rattle.xor.specs.Total.{total}
 use Rattle.xor.proofs.XorLaws.{⊕_laws}
-use Rattle.answer.specs.declared.Answer.TheVariants.{Done, NoSuchStock}
+use Rattle.std.specs.Prelude.{Ok, Err}
+use Rattle.answer.specs.declared.Refusal.TheVariants.{NoSuchStock}
 use Rattle.shape.specs.Good.{size, Good, shape}
 use Rattle.shape.specs.Place.{row, slot, place, byte}
 use Rattle.shape.specs.Step.{left, right}
-use Rattle.answer.specs.Answers.{number}
+use Rattle.answer.specs.Answers.{refusal_number, number}
 use Rattle.stock.specs.Prices.{encode_price, one_price, two_price, symbols_read}
-use Rattle.stock.specs.Stock.{stock, stock_table, zero_shape}
+use Rattle.stock.specs.Stock.{stock, stock_table}
 use Rattle.shape.proofs.GoodLaws.{shape_2, shape_3, shape_done}
 use Rattle.rule.specs.Rule.{others, chain, differs, mark}
 use Rattle.rule.specs.Outer.{walk, first}
@@ -71,8 +72,8 @@ count₂ : Holds (Case.counts (shape 2 5 2) (0 ∷ 3 ∷ replicate 18 0) 2 4)
 unfolding size place slot row byte left right chain others xors ◌⊕◌ differs some count total breaks broken_chains differing_bits ones
 count₂ = counted (shape 2 5 2) good₂ (0 ∷ 3 ∷ replicate 18 0) refl 2 4 refl
 
-stocks : Holds (Case.stocks 2 Done (shape 3 9 512)) × Holds (Case.stocks 10 NoSuchStock zero_shape)
-unfolding number stock stock_table
+stocks : Holds (Case.stocks 2 (Ok (shape 3 9 512))) × Holds (Case.stocks 10 (Err NoSuchStock))
+unfolding number refusal_number stock stock_table
 stocks = (
   record { answer = inr ((λ z. omega arith), refl); refused = λ ne. absurd (ne refl); done = λ e. refl },
   record { answer = inl (omega arith, refl); refused = λ ne. refl; done = λ e. absurd (omega arith) },

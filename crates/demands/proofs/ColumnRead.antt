@@ -6,7 +6,7 @@ use native.Mathlib.Omega.{arith}
 use lib.ListN.{length, get_or, take, length-take}
 use lib.Seq.{ext_get_or, get_or-take}
 use Rattle.shape.specs.declared.Shape.{Shape}
-use Rattle.answer.specs.declared.Answer.TheVariants.{Done}
+use Rattle.std.specs.Prelude.{Ok}
 use Rattle.shape.specs.Good.{size}
 use Rattle.shape.specs.Place.{column_length, byte, column}
 use Rattle.answer.specs.Answers.{number}
@@ -27,14 +27,14 @@ use Rattle.filling.specs.Choose.{Choose}
 use Rattle.filling.proofs.FillLaws.{FillGood, fill_done}
 
 -- the stripe solved in the outer-chain order is rebuild's where rebuild accepts
-pub rebuild_outer : (sh : Shape) (lost : Losses) (s : List ℕ) (room : ℕ) (x u y : List ℕ) → Rebuild sh lost s room Done x u → Outer sh lost s y → y ≡ x
+pub rebuild_outer : (sh : Shape) (lost : Losses) (s : List ℕ) (room : ℕ) (x u y : List ℕ) → Rebuild sh lost s room (Ok tt) x u → Outer sh lost s y → y ≡ x
 unfolding number
 rebuild_outer sh lost s room x u y p o =
     let g = rebuild_done sh lost s room p.outcome.answer in
     outer_one sh g.shape lost g.columns g.apart s y x g.stripe o (solves_outer sh g.shape lost g.columns g.apart s x (p.outcome.done refl))
 
 pub column_read : (sh : Shape) (s : List ℕ) (lost : Losses) (room : ℕ) (x u : List ℕ) (c : ℕ) (buffer buffer' part : List ℕ)
-    → Rebuild sh lost s room Done x u → Fill sh s lost c buffer Done buffer' → Choose sh s lost c buffer' part → part ≡ column sh x c
+    → Rebuild sh lost s room (Ok tt) x u → Fill sh s lost c buffer (Ok tt) buffer' → Choose sh s lost c buffer' part → part ≡ column sh x c
 unfolding number
 column_read sh s lost room x u c buffer buffer' part p q (k, r) = at (lost? lost c)
   where

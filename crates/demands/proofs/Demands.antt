@@ -1,11 +1,11 @@
 -- The demands on a rebuild and on locate: the laws of their floors.
-use mathlib.Core.Path.{◌≡◌, sym, ◌∙◌}
+use mathlib.Core.Path.{◌≡◌, refl, sym, ◌∙◌}
 use mathlib.Core.Logic.{inl, inr, ⊎_elim}
-use Prim.Native.Nat.{ℕ}
 use lib.ListN.{length}
-use native.Mathlib.Omega.{arith}
-use Rattle.answer.specs.declared.Answer.TheVariants.{Done, Disagree}
-use Rattle.answer.proofs.AnswersLaws.{number_done}
+use Rattle.std.specs.Prelude.{Ok, Err}
+use Rattle.answer.specs.declared.Refusal.TheVariants.{Disagree}
+use Rattle.answer.specs.Answers.{Answer}
+use Rattle.answer.proofs.AnswersLaws.{number_done, refused, given}
 use Rattle.shape.proofs.GoodLaws.{good_m, good_room}
 use Rattle.rule.proofs.SolvesLaws.{solves_one}
 use Rattle.locating.proofs.Explains.{explains_is_mends}
@@ -46,8 +46,8 @@ rebuild_exactly sh lost s room a x u h = (
   (λ o. ⊎_elim (λ z. inr z.1) (λ z. inl z.1) (rebuild_decides sh lost s room a x u h o)),
 )
   where
-    never : Done ≡ Disagree → ⊥
-    never e = let z : ◌≡◌ {A = ℕ} 0 1 = cc in omega arith
+    never : ◌≡◌ {A = Answer} (Ok tt) (Err Disagree) → ⊥
+    never e = refused e (given {x = Ok tt} refl)
 
 pub one_stripe : OneStripe
 one_stripe sh good lost fit apart s x y len p q = solves_one sh good lost fit apart s len x y p q

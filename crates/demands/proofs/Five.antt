@@ -12,11 +12,12 @@ use borrow.Author.Tests.{eqb-true, ne_eqb, not-true}
 use Rattle.xor.specs.Xor.{◌⊕◌, xors}
 use Rattle.xor.specs.Total.{total}
 use Rattle.shape.specs.declared.Shape.{Shape}
-use Rattle.answer.specs.declared.Answer.TheVariants.{Disagree}
+use Rattle.std.specs.Prelude.{Err}
+use Rattle.answer.specs.declared.Refusal.TheVariants.{Disagree}
 use Rattle.shape.specs.Good.{size, Good}
 use Rattle.shape.specs.Place.{height, row, slot, place, byte, column_length}
 use Rattle.shape.specs.Step.{left, right}
-use Rattle.answer.specs.Answers.{number}
+use Rattle.answer.specs.Answers.{refusal_number, number}
 use Rattle.shape.proofs.GoodLaws.{good_m, good_room, stripe_done, stripe_pass}
 use Rattle.rule.specs.declared.Losses.{Losses}
 use Rattle.rule.specs.declared.Losses.TheVariants.{One, Two}
@@ -105,8 +106,8 @@ none₅ lent len bad c e he ne mends x h = ne (mends_one sh₅ lent good₅ len 
 
 -- a rebuild of it is refused, and leaves it as lent
 pub stays : (lent : List ℕ) → length lent ≡ size sh₅ → (e : ℕ) → e < 5 → Disagrees sh₅ (One e) lent
-    → (room : ℕ) → 2 * column_length sh₅ ≤ room → Rebuild sh₅ (One e) lent room Disagree lent (replicate room 0)
-unfolding number
+    → (room : ℕ) → 2 * column_length sh₅ ≤ room → Rebuild sh₅ (One e) lent room (Err Disagree) lent (replicate room 0)
+unfolding number refusal_number
 stays lent len e he none room enough = record {
   outcome = late_outcome sh₅ (One e) lent room 9 lent (record { shape = good₅; stripe = len; workspace = enough; columns = λ z. omega arith; apart = λ z. z })
       (record { answer = inl (none, refl); refused = λ ne. refl; done = λ e. absurd (omega arith) });

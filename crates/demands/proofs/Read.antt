@@ -6,11 +6,12 @@ use Prim.Native.Nat.{ℕ, zero, suc, ◌≤◌, ◌<◌}
 use native.Mathlib.Omega.{arith}
 use lib.ListN.{length, get_or}
 use Rattle.xor.specs.Xor.{◌⊕◌, xors}
-use Rattle.answer.specs.declared.Answer.TheVariants.{BadBuffer}
+use Rattle.std.specs.Prelude.{Err}
+use Rattle.answer.specs.declared.Refusal.TheVariants.{BadBuffer}
 use Rattle.shape.specs.Good.{size}
 use Rattle.shape.specs.Place.{row, slot, place, byte, column}
 use Rattle.shape.specs.Step.{left, right}
-use Rattle.answer.specs.Answers.{number, First}
+use Rattle.answer.specs.Answers.{refusal_number, number, First}
 use Rattle.shape.proofs.GoodLaws.{stripe_pass}
 use Rattle.rule.specs.declared.Losses.{Losses}
 use Rattle.rule.specs.declared.Losses.TheVariants.{None, One, Two}
@@ -107,8 +108,8 @@ fill_10 = record {
 }
 
 -- a buffer of one byte is short
-pub fill_short : Fill sh₅ lost_0_2 None 1 (0xAA ∷ []) BadBuffer (0xAA ∷ [])
-unfolding number woven lost_0_2 size
+pub fill_short : Fill sh₅ lost_0_2 None 1 (0xAA ∷ []) (Err BadBuffer) (0xAA ∷ [])
+unfolding number refusal_number woven lost_0_2 size
 fill_short = record {
   answer = stops lost_0_2 refl None (λ z. z) (λ z. z) 1 (omega arith) 1 (omega arith);
   refused = λ ne. refl;

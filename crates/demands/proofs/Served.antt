@@ -6,14 +6,13 @@ use mathlib.Core.List.{List}
 use Prim.Native.Nat.{ℕ}
 use native.Mathlib.Decide.{ℕ_discrete}
 use lib.ListN.{length, drop}
-use Rattle.answer.specs.declared.Answer.{Answer}
-use Rattle.answer.specs.declared.Answer.TheVariants.{Done}
-use Rattle.answer.specs.Answers.{number}
+use Rattle.std.specs.Prelude.{Ok}
+use Rattle.answer.specs.Answers.{Answer, number}
 use Rattle.answer.proofs.AnswersLaws.{number_done}
 use Rattle.rebuild.specs.Rebuild.{Cleared, Rebuild}
 use Rattle.job.specs.declared.State.{State}
 use Rattle.job.specs.declared.Turn.{Turn}
-use Rattle.job.specs.Step.{Stepped}
+use Rattle.job.specs.Step.{answer_on, Stepped}
 use Rattle.job.proofs.StepLaws.{step_refused}
 use Rattle.demands.specs.OneAnswer.{OneResult, OneOutcome}
 use Rattle.demands.specs.Demands.{RefusedChangesNothing, RefusedStep}
@@ -119,14 +118,14 @@ served_work (job i from s) own w r own' w' p = inr p.2.cleared
 
 answer_in : Reply → Answer
 answer_in (answered a) = a
-answer_in (checked c) = Done
-answer_in (located l) = Done
-answer_in (handed p) = Done
-answer_in (priced p) = Done
-answer_in (stocked s) = Done
-answer_in (stepped j) = Done
+answer_in (checked c) = Ok tt
+answer_in (located l) = Ok tt
+answer_in (handed p) = Ok tt
+answer_in (priced p) = Ok tt
+answer_in (stocked s) = Ok tt
+answer_in (stepped j) = Ok tt
 
-module _ (own own' : Buffers) (k : ℕ) (a b : Answer) (ne : a ≢ Done) (e : answered a ≡ answered b) where
+module _ (own own' : Buffers) (k : ℕ) (a b : Answer) (ne : a ≢ Ok tt) (e : answered a ≡ answered b) where
   refused_too : number b ≢ 0
   unfolding answer_in
   refused_too z = ne (ap answer_in e ∙ (number_done b).0 z)
@@ -169,7 +168,7 @@ unfolding step_in
 refused_step i from s own own' w w' r n (j, e, h, o) =
     let same : r ≡ j = ap (step_in r) e in
     let (held, kept) = step_refused own.state (drop from (own.inputs i)) (own.stripes s) (length w) j (own'.stripes s) w' h
-    (λ z. n (ap (λ (j : Turn). j.line.answer) same ∙ z)) in (
+    (λ z. n (ap (λ (j : Turn). answer_on j.line) same ∙ z)) in (
       all_kept s own.stripes own'.stripes own.stripes o.stripes kept,
       o.symbols,
       o.answers,

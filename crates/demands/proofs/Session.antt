@@ -9,11 +9,12 @@ use lib.ListN.{length, drop, replicate, get_or-replicate}
 use lib.Count.{ones}
 use Rattle.xor.specs.Xor.{◌⊕◌, xors}
 use Rattle.xor.specs.Total.{total}
-use Rattle.answer.specs.declared.Answer.TheVariants.{Done, Disagree}
+use Rattle.std.specs.Prelude.{None, Some, Ok, Err}
+use Rattle.answer.specs.declared.Refusal.TheVariants.{Disagree}
 use Rattle.shape.specs.Good.{size, shape}
 use Rattle.shape.specs.Place.{height, row, slot, place, byte, column_length}
 use Rattle.shape.specs.Step.{left, right}
-use Rattle.answer.specs.Answers.{number}
+use Rattle.answer.specs.Answers.{refusal_number, number}
 use Rattle.shape.proofs.GoodLaws.{shape_done, shape_2, stripe_done}
 use Rattle.rule.specs.declared.Losses.TheVariants.{One, Two}
 use Rattle.rule.specs.Rule.{others, chain, differs}
@@ -23,7 +24,6 @@ use Rattle.locating.specs.declared.Damage.TheVariants.{Column}
 use Rattle.locating.specs.Locate.{found}
 use Rattle.rebuild.specs.Rebuild.{Rebuild}
 use Rattle.records.specs.Record.{two_bytes, counted, kind_of, payload, Unframed, Clients}
-use Rattle.kinds.specs.declared.Held.TheVariants.{None, Some}
 use Rattle.kinds.specs.declared.Deed.{Deed}
 use Rattle.kinds.specs.Kinds.{Kind, shaping, writing, storing, checking, locating, rebuilding, kind_number, Unknown, Early, Wrong, named_shape, deed, Does, TellsOf}
 use Rattle.kinds.proofs.KindsLaws.{kind_low, job_11, job_14, job_13, job_0}
@@ -95,7 +95,7 @@ seven rebuilding e = omega arith
 
 module _ (room : ℕ) (enough : 2 * column_length sh₅ ≤ room) where
   -- column 1 mends the stripe, so column 3 does not
-  disagree₇ : Rebuild sh₅ (One 3) damaged room Disagree damaged (replicate room 0)
+  disagree₇ : Rebuild sh₅ (One 3) damaged room (Err Disagree) damaged (replicate room 0)
   disagree₇ =
       let (long, bad, sol) = mends₁ in
       stays damaged long 3 (omega arith) (none₅ damaged long (disobeys_by sh₅ damaged bad) 1 3 (omega arith) (λ e. omega arith) (omega arith, written, sol)) room enough
@@ -125,49 +125,49 @@ module _ (room : ℕ) (enough : 2 * column_length sh₅ ≤ room) where
   unfolding session session_lines two_bytes counted kind_of payload kind_number step_of next printed number size written woven
   prints₉ =
       goes (after 8) (drop 47 session) written (omega arith) Kind.checking refl (λ z. z good₅) (λ ne. ne refl) (deed (Some sh₅) 0 0 0) written
-      (record { answer = Done; broken = 0; bits = 0 }, counts.0, refl, refl) (five 9 4 0 0 0) (drop 9 session_lines) refl refl
+      (Ok (record { broken = 0; bits = 0 }), counts.0, refl, refl) (five 9 4 0 0 0) (drop 9 session_lines) refl refl
 
   prints₈ : Prints (after 7) (drop 40 session) damaged room (drop 7 session_lines)
   unfolding session session_lines two_bytes counted kind_of payload kind_number step_of next printed number size written damaged woven named
   prints₈ =
       goes (after 7) (drop 40 session) damaged (omega arith) Kind.rebuilding refl (λ z. z good₅) (neither (λ z. omega arith) (λ ne. ne refl))
-      (deed (Some sh₅) 0 2 0) written (Done, back₈ room enough, record { long = refl; rest = refl }, refl) (five 8 6 0 2 0) (drop 8 session_lines) refl prints₉
+      (deed (Some sh₅) 0 2 0) written (Ok tt, back₈ room enough, record { long = refl; rest = refl }, refl) (five 8 6 0 2 0) (drop 8 session_lines) refl prints₉
 
   prints₇ : Prints (after 6) (drop 34 session) damaged room (drop 6 session_lines)
-  unfolding session session_lines two_bytes counted kind_of payload kind_number step_of next printed number size damaged woven named
+  unfolding session session_lines two_bytes counted kind_of payload kind_number step_of next printed number refusal_number size damaged woven named
   prints₇ =
       goes (after 6) (drop 34 session) damaged (omega arith) Kind.rebuilding refl (λ z. z good₅) (neither (λ z. omega arith) (λ ne. ne refl))
-      (deed (Some sh₅) 9 0 0) damaged (Disagree, disagree₇, record { long = refl; rest = refl }, refl) (five 7 6 9 0 0) (drop 7 session_lines) refl prints₈
+      (deed (Some sh₅) 9 0 0) damaged (Err Disagree, disagree₇, record { long = refl; rest = refl }, refl) (five 7 6 9 0 0) (drop 7 session_lines) refl prints₈
 
   prints₆ : Prints (after 5) (drop 30 session) damaged room (drop 5 session_lines)
   unfolding session session_lines two_bytes counted kind_of payload kind_number step_of next printed number found size damaged woven
   prints₆ =
       goes (after 5) (drop 30 session) damaged (omega arith) Kind.locating refl (λ z. z good₅) (λ ne. ne refl) (deed (Some sh₅) 0 1 1) damaged
-      (record { answer = Done; damage = Column 1 }, find₆, refl, refl) (five 6 5 0 1 1) (drop 6 session_lines) refl prints₇
+      (Ok (Column 1), find₆, refl, refl) (five 6 5 0 1 1) (drop 6 session_lines) refl prints₇
 
   prints₅ : Prints (after 4) (drop 26 session) damaged room (drop 4 session_lines)
   unfolding session session_lines two_bytes counted kind_of payload kind_number step_of next printed number size damaged woven
   prints₅ =
       goes (after 4) (drop 26 session) damaged (omega arith) Kind.checking refl (λ z. z good₅) (λ ne. ne refl) (deed (Some sh₅) 0 1 1) damaged
-      (record { answer = Done; broken = 1; bits = 1 }, counts.1, refl, refl) (five 5 4 0 1 1) (drop 5 session_lines) refl prints₆
+      (Ok (record { broken = 1; bits = 1 }), counts.1, refl, refl) (five 5 4 0 1 1) (drop 5 session_lines) refl prints₆
 
   prints₄ : Prints (after 3) (drop 19 session) written room (drop 3 session_lines)
   unfolding session session_lines two_bytes counted kind_of payload kind_number step_of next printed number size written damaged woven
   prints₄ =
       goes (after 3) (drop 19 session) written (omega arith) Kind.storing refl (λ z. z good₅) (λ z. omega arith)
-      (deed (Some sh₅) 0 0 0) damaged (Done, store₄, record { long = refl; rest = refl }, refl) (five 4 3 0 0 0) (drop 4 session_lines) refl prints₅
+      (deed (Some sh₅) 0 0 0) damaged (Ok tt, store₄, record { long = refl; rest = refl }, refl) (five 4 3 0 0 0) (drop 4 session_lines) refl prints₅
 
   prints₃ : Prints (after 2) (drop 15 session) written room (drop 2 session_lines)
   unfolding session session_lines two_bytes counted kind_of payload kind_number step_of next printed number size written woven
   prints₃ =
       goes (after 2) (drop 15 session) written (omega arith) Kind.checking refl (λ z. z good₅) (λ ne. ne refl) (deed (Some sh₅) 0 0 0) written
-      (record { answer = Done; broken = 0; bits = 0 }, counts.0, refl, refl) (five 3 4 0 0 0) (drop 3 session_lines) refl prints₄
+      (Ok (record { broken = 0; bits = 0 }), counts.0, refl, refl) (five 3 4 0 0 0) (drop 3 session_lines) refl prints₄
 
   prints₂ : Prints (after 1) (drop 8 session) (replicate 10 0) room (drop 1 session_lines)
   unfolding session session_lines two_bytes counted kind_of payload kind_number step_of next printed number size written woven
   prints₂ =
       goes (after 1) (drop 8 session) (replicate 10 0) (omega arith) Kind.writing refl (λ z. z good₅) (λ z. omega arith)
-      (deed (Some sh₅) 0 0 0) written (Done, write₂, record { long = refl; rest = refl }, refl) (five 2 2 0 0 0) (drop 2 session_lines) refl prints₃
+      (deed (Some sh₅) 0 0 0) written (Ok tt, write₂, record { long = refl; rest = refl }, refl) (five 2 2 0 0 0) (drop 2 session_lines) refl prints₃
 
   prints₁ : Prints start session stripe₅ room session_lines
   unfolding session session_lines two_bytes counted kind_of payload kind_number named_shape step_of next printed size stripe₅ woven information parity
@@ -225,7 +225,7 @@ module _ (room : ℕ) (enough : 2 * column_length sh₅ ≤ room) where
       Kind.shaping refl (λ z. z) (λ ne. ne refl) (deed (Some sh₅) 2 0 0) stripe₅
       (2, shape_2 (shape 2 4 1) (omega arith) (inl (omega arith)), inr ((λ z. omega arith), refl, refl)) (five 2 1 2 0 0) (five 3 4 0 0 0 ∷ []) refl
       (goes (after 2) (0x02 ∷ 0x00 ∷ 0x04 ∷ 0x00 ∷ []) stripe₅ (omega arith) Kind.checking refl (λ z. z good₅) (λ ne. ne refl) (deed (Some sh₅) 0 0 0) stripe₅
-      (record { answer = Done; broken = 0; bits = 0 }, counts.2, refl, refl) (five 3 4 0 0 0) [] refl refl)
+      (Ok (record { broken = 0; bits = 0 }), counts.2, refl, refl) (five 3 4 0 0 0) [] refl refl)
 
 pub session_prints : Holds (Case.prints start session stripe₅ session_lines)
 session_prints = prints₁

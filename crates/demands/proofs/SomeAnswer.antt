@@ -7,7 +7,7 @@ use Prim.Native.Nat.{ℕ}
 use lib.ListN.{length, drop}
 use lib.Dec.{eqb}
 use borrow.Author.Tests.{eq-eqb, ne_eqb}
-use Rattle.answer.specs.declared.Answer.{Answer}
+use Rattle.answer.specs.Answers.{Answer}
 use Rattle.stock.proofs.PricesLaws.{prices_some}
 use Rattle.stock.proofs.StockLaws.{stock_some}
 use Rattle.encoding.proofs.EncodeLaws.{encode_some}

@@ -4,7 +4,8 @@ use mathlib.Core.Path.{refl, sym}
 use mathlib.Core.Logic.{inl, inr}
 use mathlib.Core.List.{[], ◌∷◌}
 use native.Mathlib.Omega.{arith}
-use Rattle.answer.specs.declared.Answer.TheVariants.{Done, BadBuffer, Disagree}
+use Rattle.std.specs.Prelude.{Ok, Err}
+use Rattle.answer.specs.declared.Refusal.TheVariants.{BadBuffer, Disagree}
 use Rattle.shape.specs.Good.{shape}
 use Rattle.shape.specs.Refusals.{shape_table}
 use Rattle.rule.specs.declared.Losses.TheVariants.{None, One, Two}
@@ -22,20 +23,20 @@ use Rattle.demands.proofs.Witnesses.{witnessed}
 pub demands_take : Unit {0}
 demands_take =
     let (ne, served) = witnessed.0 in
-    let z = sym (refused_changes_nothing (rebuild sh₅ (One 3) 0) (client_with cleared_0 [] start) (client_with cleared_0 [] start) dirty zeros Disagree ne served) in
+    let z = sym (refused_changes_nothing (rebuild sh₅ (One 3) 0) (client_with cleared_0 [] start) (client_with cleared_0 [] start) dirty zeros (Err Disagree) ne served) in
     let (r, bad, served) = witnessed.1 in
     let z = (refused_step 0 0 0 (client_with stripe₅ shape_2_4 (after 1)) (client_with stripe₅ shape_2_4 (after 2)) dirty zeros r bad served).0 in
     let ((lent, step), lent₂, step₂) = witnessed.2 in
     let z = (zero_after (world lost_0_2 cleared_0 dirty) (refused_1 lost_0_2) lent step).long in
     let z = (zero_after (world lost_0_2 cleared_0 dirty) (done_0 cleared_0) lent₂ step₂).long in
     let (good, long, bytes, obeys, agrees, done) = witnessed.3 in
-    let z = (comes_back sh₅ (Two 0 2) stripe₅ lost_0_2 4 good long bytes obeys agrees Done stripe₅ zeros done).0 in
+    let z = (comes_back sh₅ (Two 0 2) stripe₅ lost_0_2 4 good long bytes obeys agrees (Ok tt) stripe₅ zeros done).0 in
     let ((done, good, sol), refused, good₂, none) = witnessed.4 in
-    let z = ((rebuild_exactly sh₅ (Two 0 2) lost_0_2 4 Done stripe₅ zeros done).3 good stripe₅ sol).0 in
-    let z = sym ((rebuild_exactly sh₅ (One 3) cleared_0 4 Disagree cleared_0 zeros refused).1 good₂ none) in
+    let z = ((rebuild_exactly sh₅ (Two 0 2) lost_0_2 4 (Ok tt) stripe₅ zeros done).3 good stripe₅ sol).0 in
+    let z = sym ((rebuild_exactly sh₅ (One 3) cleared_0 4 (Err Disagree) cleared_0 zeros refused).1 good₂ none) in
     let (good, fit, apart, long, sol) = witnessed.5 in
     let z = sym (one_stripe sh₅ good (Two 0 2) fit apart lost_0_2 stripe₅ stripe₅ long sol sol) in
-    let z = (either_order sh₅ 0 2 lost_0_2 4 Done stripe₅ zeros witnessed.6).cleared in
+    let z = (either_order sh₅ 0 2 lost_0_2 4 (Ok tt) stripe₅ zeros witnessed.6).cleared in
     let (good, long, bytes, bad, explains) = witnessed.7 in
     let z = sym (one_explains sh₅ good cleared_0 long bytes bad 0 0 (omega arith) (omega arith) explains explains) in
     let (good, long, bad, mends) = witnessed.8 in
@@ -45,8 +46,8 @@ demands_take =
     let (es, long, own) = witnessed.10 in
     let z = (as_if_alone 0 (world lost_0_2 cleared_0 dirty) (world lost_0_2 flipped_0_1 zeros) both es long own).0 in
     let ((unlike, long, agrees, p, q), unlike₂, long₂, agrees₂, p₂, q₂) = witnessed.11 in
-    let z = (old_bytes sh₅ (Two 0 2) lost_0_2 stripe₅ 4 Done Done stripe₅ stripe₅ zeros zeros long agrees p q).0 in
-    let z = ((old_bytes sh₅ (One 3) cleared_0 cleared_0_lost_3 4 Disagree Disagree cleared_0 cleared_0_lost_3 zeros zeros long₂ agrees₂ p₂ q₂).2 ne).0 in
+    let z = (old_bytes sh₅ (Two 0 2) lost_0_2 stripe₅ 4 (Ok tt) (Ok tt) stripe₅ stripe₅ zeros zeros long agrees p q).0 in
+    let z = ((old_bytes sh₅ (One 3) cleared_0 cleared_0_lost_3 4 (Err Disagree) (Err Disagree) cleared_0 cleared_0_lost_3 zeros zeros long₂ agrees₂ p₂ q₂).2 ne).0 in
     let (es, clean) = witnessed.12 in
     let z = (no_residue (world lost_0_2 cleared_0 zeros) both es clean).long in
     tt
@@ -71,12 +72,12 @@ readings_take =
     let z = (some_outer sh₅ good (Two 4 0) fit apart lost_4_0 long).0 in
     let (done, outer) = witnessed.18 in
     let z = sym (fill_is_rebuild sh₅ (Two 0 2) lost_0_2 4 stripe₅ zeros stripe₅ done outer) in
-    let z = (fill_either_order sh₅ 0 2 lost_0_2 0 lent Done filled witnessed.19).answer in
+    let z = (fill_either_order sh₅ 0 2 lost_0_2 0 lent (Ok tt) filled witnessed.19).answer in
     let (done, fill, choose) = witnessed.20 in
     let z = sym (fill_then_choose sh₅ lost_0_2 (Two 0 2) 4 stripe₅ zeros 0 lent filled (0x01 ∷ 0x12 ∷ []) done fill choose) in
     let ((part, fill), none, short) = witnessed.21 in
-    let z = (choose_empty sh₅ lost_0_2 (Two 0 2) 0 lent (0xAA ∷ 0xBB ∷ []) filled Done part fill).0 in
-    let z = (choose_empty sh₅ lost_0_2 None 1 (0xAA ∷ []) [] (0xAA ∷ []) BadBuffer none short).0 refl in
+    let z = (choose_empty sh₅ lost_0_2 (Two 0 2) 0 lent (0xAA ∷ 0xBB ∷ []) filled (Ok tt) part fill).0 in
+    let z = (choose_empty sh₅ lost_0_2 None 1 (0xAA ∷ []) [] (0xAA ∷ []) (Err BadBuffer) none short).0 refl in
     tt
 
 pub steps_take : Unit {0}

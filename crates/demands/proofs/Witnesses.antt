@@ -5,13 +5,14 @@ use mathlib.Core.List.{List, [], ◌∷◌}
 use Prim.Native.Nat.{ℕ, zero, suc}
 use native.Mathlib.Omega.{arith}
 use lib.ListN.{length, get_or}
-use Rattle.answer.specs.declared.Answer.TheVariants.{Done, Disagree}
+use Rattle.std.specs.Prelude.{Some, Ok, Err}
+use Rattle.answer.specs.declared.Refusal.TheVariants.{Disagree}
 use Rattle.shape.specs.Good.{size, shape}
 use Rattle.shape.specs.Place.{height, row, slot, place, byte}
 use Rattle.shape.specs.Step.{left, right}
 use Rattle.shape.specs.Refusals.{shape_table}
-use Rattle.answer.specs.Answers.{number, First}
-use Rattle.answer.proofs.AnswersLaws.{first_lowest}
+use Rattle.answer.specs.Answers.{Answer, First}
+use Rattle.answer.proofs.AnswersLaws.{refused, given, first_lowest}
 use Rattle.shape.proofs.GoodLaws.{shape_2, shape_rises}
 use Rattle.rule.specs.declared.Losses.TheVariants.{One, Two}
 use Rattle.rule.specs.Losses.{Agrees, Solves, Disagrees}
@@ -19,7 +20,6 @@ use Rattle.rule.specs.Outer.{walk, first, second, Outer}
 use Rattle.rule.proofs.SolvesLaws.{agrees_sym, solves_across, solves_outer}
 use Rattle.rebuild.specs.Rebuild.{Rebuild, OtherwiseGood}
 use Rattle.job.specs.declared.State.{State}
-use Rattle.kinds.specs.declared.Held.TheVariants.{Some}
 use Rattle.records.specs.Record.{two_bytes, counted, kind_of, payload}
 use Rattle.kinds.specs.Kinds.{Kind, kind_number, named_shape, deed}
 use Rattle.job.specs.Step.{next, step_of, Stepped}
@@ -43,7 +43,7 @@ done₆ : Done₆
 done₆ = p6 4 (omega arith)
 
 solved₆ : OtherwiseGood sh₅ (Two 0 2) lost_0_2 4 × Solves sh₅ (Two 0 2) lost_0_2 stripe₅
-solved₆ = (rebuild_exactly sh₅ (Two 0 2) lost_0_2 4 Done stripe₅ zeros done₆).2 refl
+solved₆ = (rebuild_exactly sh₅ (Two 0 2) lost_0_2 4 (Ok tt) stripe₅ zeros done₆).2 refl
 
 -- column 0 mends P9's stripe, so column 3 does not
 refused₉ : Refused₉
@@ -52,14 +52,13 @@ refused₉ =
     stays cleared_0 long 3 (omega arith) (none₅ cleared_0 long bad 0 3 (omega arith) (λ e. omega arith) mends) 4 (omega arith)
 
 disagrees₉ : OtherwiseGood sh₅ (One 3) cleared_0 4 × Disagrees sh₅ (One 3) cleared_0
-disagrees₉ = (rebuild_exactly sh₅ (One 3) cleared_0 4 Disagree cleared_0 zeros refused₉).0 refl
+disagrees₉ = (rebuild_exactly sh₅ (One 3) cleared_0 4 (Err Disagree) cleared_0 zeros refused₉).0 refl
 
-disagree : Disagree ≢ Done
-unfolding number
-disagree e = let z = ap number e in omega arith
+disagree : ◌≢◌ {A = Answer} (Err Disagree) (Ok tt)
+disagree e = refused (sym e) (given {x = Ok tt} refl)
 
 -- the same survivors and other bytes in the lost columns, which are not looked at
-done_too : Rebuild sh₅ (Two 0 2) stripe₅ 4 Done stripe₅ zeros
+done_too : Rebuild sh₅ (Two 0 2) stripe₅ 4 (Ok tt) stripe₅ zeros
 unfolding woven information parity stripe₅ size place slot row byte all same_test lost_test
 done_too = comes_back₅ (Two 0 2) stripe₅ stripe₅ sound₅ refl fit₂ (λ z. omega arith) refl 4 (omega arith)
 
@@ -71,7 +70,7 @@ unlike₉ : (cleared_0 ≢ cleared_0_lost_3) × (length cleared_0 ≡ length cle
 unfolding woven parity cleared_0 cleared_0_lost_3 size place slot row byte all same_test lost_test
 unlike₉ = ((λ e. let z = ap (λ (x : List ℕ). get_or x 6 0) e in omega arith), refl, agrees_by sh₅ (One 3) cleared_0 cleared_0_lost_3 refl)
 
-refused_too : Rebuild sh₅ (One 3) cleared_0_lost_3 4 Disagree cleared_0_lost_3 zeros
+refused_too : Rebuild sh₅ (One 3) cleared_0_lost_3 4 (Err Disagree) cleared_0_lost_3 zeros
 refused_too =
     let (unlike, long, agrees) = unlike₉ in
     let (good, none) = disagrees₉ in
@@ -89,14 +88,14 @@ only_0 s x input st st' = record { stripes = at; symbols = refl; answers = refl;
     at (suc j) ne = refl
 
 step_0 : (z work : List ℕ) → length work ≡ 4 → Step (world lost_0_2 z work) (done_0 z)
-step_0 z work long = record { served = (Done, refl, rw long done₆, only_0 lost_0_2 stripe₅ [] start start); others = at }
+step_0 z work long = record { served = (Ok tt, refl, rw long done₆, only_0 lost_0_2 stripe₅ [] start start); others = at }
   where
     at : (d : ℕ) → d ≢ 0 → clients stripe₅ z d ≡ clients lost_0_2 z d
     at zero ne = absurd (ne refl)
     at (suc d) ne = refl
 
 step_1 : (s work : List ℕ) → length work ≡ 4 → Step (world s cleared_0 work) (refused_1 s)
-step_1 s work long = record { served = (Disagree, refl, rw long refused₉, only_0 cleared_0 cleared_0 [] start start); others = λ d ne. refl }
+step_1 s work long = record { served = (Err Disagree, refl, rw long refused₉, only_0 cleared_0 cleared_0 [] start start); others = λ d ne. refl }
 
 -- (2,4) is refused
 refused_shape : Stepped (after 1) shape_2_4 stripe₅ 4 (step_of (after 1) 1 (deed (Some sh₅) 2 0 0) 8) stripe₅ zeros
@@ -111,7 +110,7 @@ refused_shape =
 -- ---- DEMAND 1
 
 refused_changes_nothing_meets : Witnesses.RefusedChangesNothingMeets
-refused_changes_nothing_meets = (disagree, (Disagree, refl, refused₉, only_0 cleared_0 cleared_0 [] start start))
+refused_changes_nothing_meets = (disagree, (Err Disagree, refl, refused₉, only_0 cleared_0 cleared_0 [] start start))
 
 refused_step_meets : Witnesses.RefusedStepMeets
 unfolding step_of next
@@ -168,7 +167,7 @@ unfolding left right height
 two_parities_meets = (p8, refl, refl, (λ e. omega arith), (λ e. omega arith))
 
 solved₇ : OtherwiseGood sh₅ (Two 4 0) lost_4_0 4 × Solves sh₅ (Two 4 0) lost_4_0 stripe₅
-solved₇ = (rebuild_exactly sh₅ (Two 4 0) lost_4_0 4 Done stripe₅ zeros (p7.2 4 (omega arith))).2 refl
+solved₇ = (rebuild_exactly sh₅ (Two 4 0) lost_4_0 4 (Ok tt) stripe₅ zeros (p7.2 4 (omega arith))).2 refl
 
 outer₇ : Outer sh₅ (Two 4 0) lost_4_0 stripe₅
 outer₇ =

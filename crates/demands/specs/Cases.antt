@@ -1,18 +1,18 @@
 -- SMALL STRIPES BY HAND (document 01, P1 to P11, and the session of the job program): one list of cases, and what it is for a case to hold,
 -- said by the definitions of the rule and by the calls' own contracts.
-use Rattle.std.specs.Prelude.{◌≡◌, cond, List, [], ◌∷◌, ℕ, zero, suc, ◌-◌, ◌*◌, ◌≤◌, ◌<◌, length, drop, replicate, eqb}
+use Rattle.std.specs.Prelude.{◌≡◌, cond, List, [], ◌∷◌, ℕ, zero, suc, ◌-◌, ◌*◌, ◌≤◌, ◌<◌, length, drop, replicate, eqb, Option, None, Some, Result, Ok, Err}
 use Rattle.xor.specs.Xor.{◌⊕◌}
 use Rattle.shape.specs.declared.Shape.{Shape}
-use Rattle.answer.specs.declared.Answer.{Answer}
-use Rattle.answer.specs.declared.Answer.TheVariants.{Done, NoSuchStock}
+use Rattle.answer.specs.declared.Refusal.{Refusal}
+use Rattle.answer.specs.declared.Refusal.TheVariants.{NoSuchStock}
 use Rattle.shape.specs.Good.{Within, symbol, Good, shape}
 use Rattle.shape.specs.Place.{column_length}
 use Rattle.answer.specs.Answers.{First}
 use Rattle.shape.specs.Refusals.{shape_table}
 use Rattle.stock.specs.Prices.{Prices}
-use Rattle.stock.specs.Stock.{Stock, zero_shape}
+use Rattle.stock.specs.Stock.{Stock}
 use Rattle.rule.specs.declared.Losses.{Losses}
-use Rattle.rule.specs.declared.Losses.TheVariants.{None, One, Two}
+use Rattle.rule.specs.declared.Losses.TheVariants.{One, Two}
 use Rattle.rule.specs.Rule.{Grid, others, chain, mark}
 use Rattle.rule.specs.Outer.{first}
 use Rattle.locating.specs.declared.Damage.{Damage}
@@ -26,7 +26,7 @@ use Rattle.handing.specs.Column.{ColumnRead}
 use Rattle.rebuild.specs.Rebuild.{Rebuild}
 use Rattle.filling.specs.Fill.{Fill}
 use Rattle.filling.specs.Choose.{Choose}
-use Rattle.kinds.specs.declared.Held.{Held}
+use Rattle.line.specs.declared.Line.{Line}
 use Rattle.job.specs.declared.State.{State}
 use Rattle.job.specs.declared.Turn.{Turn}
 use Rattle.job.specs.Step.{Stepped}
@@ -47,7 +47,7 @@ pub data Case : Type 0 where
   fills : (sh : Shape) (s : List ℕ) (lost : Losses) (wanted : ℕ) (lent left : List ℕ) → Case  -- the answer buffer as lent, and as left
   chooses : (sh : Shape) (s : List ℕ) (lost : Losses) (wanted : ℕ) (buffer part : List ℕ) → Case
   hands_out : (sh : Shape) (s : List ℕ) (column : ℕ) (part : List ℕ) → Case
-  stocks : (i : ℕ) (answer : Answer) (sh : Shape) → Case
+  stocks : (i : ℕ) (answer : Result Shape Refusal) → Case
   costs : (m n encode one two reads : ℕ) → Case  -- whatever w is
   prints : (st : State) (input lent : List ℕ) (lines : List (List ℕ)) → Case  -- the job program from that state on; [] for a record without a line
 
@@ -73,9 +73,13 @@ five a b c d e = a ∷ b ∷ c ∷ d ∷ e ∷ []
 abbrev pub sh₅ : Shape
 sh₅ = shape 2 5 1
 
--- the line of a step, if it is printed
+-- the numbers of a line, none where there is no line; those of the line of a step
+abbrev pub numbers_of : Option Line → List ℕ
+numbers_of None = []
+numbers_of (Some l) = five l.number l.kind l.answer l.x l.y
+
 unfoldable pub printed : Turn → List ℕ
-printed r = cond r.shown (five r.line.number r.line.kind r.line.answer r.line.x r.line.y) []
+printed r = numbers_of r.line
 
 -- the lines of the job program, step by step, as long as there is input left
 abbrev pub Prints : State → List ℕ → List ℕ → ℕ → List (List ℕ) → Type 0
@@ -90,18 +94,18 @@ Holds (chains_at m n row column chains) = chains_with m n (mark (m - 1 - row) co
 Holds (any_w m n answer) = (w : ℕ) → First (shape_table (shape m n w)) answer
 Holds (good_w m n) = (w : ℕ) → Within symbol w → First (shape_table (shape m n w)) 0
 Holds (one_w m n w answer) = First (shape_table (shape m n w)) answer
-Holds (encodes information parity) = (a b c d e : ℕ) → Encode sh₅ (woven information (five a b c d e)) Done (woven information parity)
-Holds (rebuilds sh lost lent left) = (room : ℕ) → 2 * column_length sh ≤ room → Rebuild sh lost lent room Done left (replicate room 0)
+Holds (encodes information parity) = (a b c d e : ℕ) → Encode sh₅ (woven information (five a b c d e)) (Ok tt) (woven information parity)
+Holds (rebuilds sh lost lent left) = (room : ℕ) → 2 * column_length sh ≤ room → Rebuild sh lost lent room (Ok tt) left (replicate room 0)
 Holds (is_first n a b column) = first n a b ≡ column
-Holds (small_writes sh lent column row new left) = SmallWrite sh lent column row new Done left
-Holds (raw_stores sh lent column row new left) = RawStore sh lent column row new Done left
-Holds (counts sh lent broken bits) = Check sh lent (record { answer = Done; broken = broken; bits = bits })
-Holds (finds sh lent damage) = Locate sh lent (record { answer = Done; damage = damage })
-Holds (fills sh s lost wanted lent left) = Fill sh s lost wanted lent Done left
+Holds (small_writes sh lent column row new left) = SmallWrite sh lent column row new (Ok tt) left
+Holds (raw_stores sh lent column row new left) = RawStore sh lent column row new (Ok tt) left
+Holds (counts sh lent broken bits) = Check sh lent (Ok (record { broken = broken; bits = bits }))
+Holds (finds sh lent damage) = Locate sh lent (Ok damage)
+Holds (fills sh s lost wanted lent left) = Fill sh s lost wanted lent (Ok tt) left
 Holds (chooses sh s lost wanted buffer part) = Choose sh s lost wanted buffer part
 Holds (hands_out sh s column part) = ColumnRead sh s column part
-Holds (stocks i answer sh) = Stock i (record { answer = answer; shape = sh })
-Holds (costs m n encode one two reads) = (w : ℕ) → Good (shape m n w) → Prices (shape m n w) (record { answer = Done; encode = encode; one = one; two = two; reads = reads })
+Holds (stocks i answer) = Stock i answer
+Holds (costs m n encode one two reads) = (w : ℕ) → Good (shape m n w) → Prices (shape m n w) (Ok (record { encode = encode; one = one; two = two; reads = reads }))
 Holds (prints st input lent lines) = (room : ℕ) → 2 * column_length sh₅ ≤ room → Prints st input lent room lines
 
 unfoldable pub information : List ℕ
@@ -128,10 +132,10 @@ flipped_0_1 = woven (five 0x00 0x03 0x04 0x08 0x10) parity
 
 -- the job program at its start, and with (2, 5), w 1 held after this many records
 abbrev pub start : State
-start = record { held = Held.None; records = 0 }
+start = record { held = None; records = 0 }
 
 abbrev pub after : ℕ → State
-after k = record { held = Held.Some sh₅; records = k }
+after k = record { held = Some sh₅; records = k }
 
 unfoldable pub session : List ℕ
 session =
@@ -205,13 +209,13 @@ cases =
     -- Choose: the survivor from the stripe, the lost column from the buffer, nothing where the buffer is short.
     ∷ chooses sh₅ lost_0_2 (Two 0 2) 1 (0xAA ∷ 0xBB ∷ []) (0x02 ∷ 0x05 ∷ [])
     ∷ chooses sh₅ lost_0_2 (Two 0 2) 2 (0xAA ∷ 0xBB ∷ 0xCC ∷ []) (0xAA ∷ 0xBB ∷ [])
-    ∷ chooses sh₅ lost_0_2 None 1 (0xAA ∷ []) []
+    ∷ chooses sh₅ lost_0_2 Losses.None 1 (0xAA ∷ []) []
     -- Column: 3 of P5, and one that is not there.
     ∷ hands_out sh₅ stripe₅ 3 (0x08 ∷ 0x14 ∷ [])
     ∷ hands_out sh₅ stripe₅ 5 []
     -- Stock: the third entry, and a number over 9.
-    ∷ stocks 2 Done (shape 3 9 512)
-    ∷ stocks 10 NoSuchStock zero_shape
+    ∷ stocks 2 (Ok (shape 3 9 512))
+    ∷ stocks 10 (Err NoSuchStock)
     -- The job program: the session of document 01, whole.
     ∷ prints start session stripe₅ session_lines
     -- A rebuild of three columns before any shape is 14, not 13; a kind that is none is 11; a short shape is 13, before any shape too.

@@ -1,8 +1,8 @@
 -- THE DEMANDS, each as one statement over the contracts. Proofs: proofs/, the same names in small letters.
-use Rattle.std.specs.Prelude.{◌≡◌, ◌≢◌, ◌⊎◌, List, ℕ, ◌<◌, length}
+use Rattle.std.specs.Prelude.{◌≡◌, ◌≢◌, ◌⊎◌, List, ℕ, ◌<◌, length, Ok, Err}
 use Rattle.shape.specs.declared.Shape.{Shape}
-use Rattle.answer.specs.declared.Answer.{Answer}
-use Rattle.answer.specs.declared.Answer.TheVariants.{Done, Disagree}
+use Rattle.answer.specs.Answers.{Answer}
+use Rattle.answer.specs.declared.Refusal.TheVariants.{Disagree}
 use Rattle.shape.specs.Good.{Good, size}
 use Rattle.rule.specs.declared.Losses.{Losses}
 use Rattle.rule.specs.declared.Losses.TheVariants.{Two}
@@ -11,18 +11,19 @@ use Rattle.rule.specs.Losses.{Beyond, Twice, Agrees, Bytes, Solves, Disagrees}
 use Rattle.locating.specs.Locate.{Mends, Explains}
 use Rattle.rebuild.specs.Rebuild.{OtherwiseGood, Rebuild, Cleared}
 use Rattle.job.specs.declared.Turn.{Turn}
+use Rattle.job.specs.Step.{answer_on}
 use Rattle.demands.specs.Sequences.{Buffers, Request, encode, check, locate, small_write, raw_store, rebuild, read_column, fill, choose, prices, stock, job, answered, stepped, Served, World, Event, Step, History, final, asked, saw, OnlyOf}
 
 -- ---- DEMAND 1. "Every call ends and answers for all inputs": that is the language's; which answer: specs/OneAnswer.antt.
 
 -- "A refused call changes no stripe", no answer buffer, and nothing else that the client has.
 abbrev pub RefusedChangesNothing : Type 0
-RefusedChangesNothing = (q : Request) (own own' : Buffers) (work work' : List ℕ) (a : Answer) → a ≢ Done → Served q own work (answered a) own' work'
+RefusedChangesNothing = (q : Request) (own own' : Buffers) (work work' : List ℕ) (a : Answer) → a ≢ Ok tt → Served q own work (answered a) own' work'
     → own' ≡ own
 
--- The same of a step of the job program, whose answer stands in its line; it goes on by a record. And so: "A refused shape leaves the old one."
+-- The same of a step of the job program, whose answer stands on its line; it goes on by a record. And so: "A refused shape leaves the old one."
 abbrev pub RefusedStep : Type 0
-RefusedStep = (i from s : ℕ) (own own' : Buffers) (work work' : List ℕ) (r : Turn) → r.line.answer ≢ 0
+RefusedStep = (i from s : ℕ) (own own' : Buffers) (work work' : List ℕ) (r : Turn) → answer_on r.line ≢ 0
     → Served (job i from s) own work (stepped r) own' work'
     → (own'.stripes ≡ own.stripes) × (own'.symbols ≡ own.symbols) × (own'.answers ≡ own.answers) × (own'.inputs ≡ own.inputs)
     × (own'.state.held ≡ own.state.held)
@@ -52,17 +53,17 @@ ZeroAfter = (before : World) (e : Event) → Lends e.request → Step before e �
 abbrev pub ComesBack : Type 0
 ComesBack = (sh : Shape) (lost : Losses) (s hurt : List ℕ) (room : ℕ) → OtherwiseGood sh lost hurt room
     → length s ≡ length hurt → Bytes s → Obeys sh s → Agrees sh lost hurt s
-    → (a : Answer) (x u : List ℕ) → Rebuild sh lost hurt room a x u → (a ≡ Done) × (x ≡ s)
+    → (a : Answer) (x u : List ℕ) → Rebuild sh lost hurt room a x u → (a ≡ Ok tt) × (x ≡ s)
 
 -- "A rebuild of none, one or two columns yields the only stripe that obeys the rule and agrees with the survivors; survivors disagree is
 -- answered exactly when, the call being otherwise good, there is no such stripe."
 abbrev pub RebuildExactly : Type 0
 RebuildExactly = (sh : Shape) (lost : Losses) (s : List ℕ) (room : ℕ) (a : Answer) (x u : List ℕ) → Rebuild sh lost s room a x u
-    → (a ≡ Disagree → OtherwiseGood sh lost s room × Disagrees sh lost s)
-    × (OtherwiseGood sh lost s room → Disagrees sh lost s → a ≡ Disagree)
-    × (a ≡ Done → OtherwiseGood sh lost s room × Solves sh lost s x)
-    × (OtherwiseGood sh lost s room → (y : List ℕ) → Solves sh lost s y → (a ≡ Done) × (x ≡ y))
-    × (OtherwiseGood sh lost s room → (a ≡ Done) ⊎ (a ≡ Disagree))
+    → (a ≡ Err Disagree → OtherwiseGood sh lost s room × Disagrees sh lost s)
+    × (OtherwiseGood sh lost s room → Disagrees sh lost s → a ≡ Err Disagree)
+    × (a ≡ Ok tt → OtherwiseGood sh lost s room × Solves sh lost s x)
+    × (OtherwiseGood sh lost s room → (y : List ℕ) → Solves sh lost s y → (a ≡ Ok tt) × (x ≡ y))
+    × (OtherwiseGood sh lost s room → (a ≡ Ok tt) ⊎ (a ≡ Err Disagree))
 
 -- "the only stripe that obeys the rule and agrees with the survivors"
 abbrev pub OneStripe : Type 0
@@ -109,7 +110,7 @@ abbrev pub OldBytes : Type 0
 OldBytes = (sh : Shape) (lost : Losses) (s s₂ : List ℕ) (room : ℕ) (a b : Answer) (x y u v : List ℕ)
     → length s ≡ length s₂ → Agrees sh lost s s₂
     → Rebuild sh lost s room a x u → Rebuild sh lost s₂ room b y v
-    → (a ≡ b) × (a ≡ Done → x ≡ y) × (a ≢ Done → (x ≡ s) × (y ≡ s₂))
+    → (a ≡ b) × (a ≡ Ok tt → x ≡ y) × (a ≢ Ok tt → (x ≡ s) × (y ≡ s₂))
 
 -- Clause 7: a workspace that holds nothing at first holds nothing after any sequence of calls, whoever made them and whatever was refused.
 abbrev pub NoResidue : Type 0

@@ -1,11 +1,11 @@
 -- ONE ANSWER. "The statement of a public function leaves one possible result and one possible content of each lent buffer. That there is only one
 -- is itself proved." Two outcomes that meet a call's contract for the same input are the same; and there always is one.
 -- Proofs: proofs/, the same names in small letters.
-use Rattle.std.specs.Prelude.{◌≡◌, List, ℕ}
+use Rattle.std.specs.Prelude.{◌≡◌, List, ℕ, Result}
 use Rattle.shape.specs.declared.Shape.{Shape}
-use Rattle.answer.specs.declared.Answer.{Answer}
+use Rattle.answer.specs.declared.Refusal.{Refusal}
+use Rattle.answer.specs.Answers.{Answer}
 use Rattle.stock.specs.declared.Priced.{Priced}
-use Rattle.stock.specs.declared.Stocked.{Stocked}
 use Rattle.stock.specs.Prices.{Prices}
 use Rattle.stock.specs.Stock.{Stock}
 use Rattle.rule.specs.declared.Losses.{Losses}
@@ -61,10 +61,10 @@ abbrev pub OneChoose : Type 0
 OneChoose = (sh : Shape) (s : List ℕ) (lost : Losses) (c : ℕ) (z : List ℕ) → OneResult (Choose sh s lost c z)
 
 abbrev pub OnePrices : Type 0
-OnePrices = (sh : Shape) → OneResult {A = Priced} (Prices sh)
+OnePrices = (sh : Shape) → OneResult {A = Result Priced Refusal} (Prices sh)
 
 abbrev pub OneStock : Type 0
-OneStock = (i : ℕ) → OneResult {A = Stocked} (Stock i)
+OneStock = (i : ℕ) → OneResult {A = Result Shape Refusal} (Stock i)
 
 -- a step of the job program; here too nothing says what the workspace held
 abbrev pub OneStep : Type 0

@@ -1,9 +1,8 @@
 -- THE READING OF THE WORDS: sentences of document 01 that follow from the definitions. Proofs: proofs/, the same names in small letters.
-use Rattle.std.specs.Prelude.{◌≡◌, ◌↔◌, ◌≢◌, ◌⊎◌, true, false, cond, List, ℕ, ◌+◌, ◌*◌, ◌<◌, ◌≤◌, length, get_or, ltb}
+use Rattle.std.specs.Prelude.{◌≡◌, ◌↔◌, ◌≢◌, ◌⊎◌, true, false, cond, List, ℕ, ◌+◌, ◌*◌, ◌<◌, ◌≤◌, length, get_or, ltb, is_some, Some, Ok}
 use Rattle.xor.specs.Xor.{◌⊕◌}
 use Rattle.shape.specs.declared.Shape.{Shape}
-use Rattle.answer.specs.declared.Answer.{Answer}
-use Rattle.answer.specs.declared.Answer.TheVariants.{Done}
+use Rattle.answer.specs.Answers.{Answer}
 use Rattle.shape.specs.Good.{Good, size}
 use Rattle.shape.specs.Place.{height, column_length, byte, column}
 use Rattle.shape.specs.Step.{left, right}
@@ -25,9 +24,10 @@ use Rattle.filling.specs.Fill.{Fill, fill_table}
 use Rattle.filling.specs.Choose.{Choose}
 use Rattle.records.specs.Record.{kind_of, payload, Unframed, Clients}
 use Rattle.kinds.specs.Kinds.{Kind, kind_number, Unknown, Early, Wrong}
+use Rattle.line.specs.declared.Line.{Line}
 use Rattle.job.specs.declared.State.{State}
 use Rattle.job.specs.declared.Turn.{Turn}
-use Rattle.job.specs.Step.{Stepped}
+use Rattle.job.specs.Step.{answer_on, Stepped}
 
 -- ---- layout and chains
 
@@ -75,7 +75,7 @@ ExplainsIsMends = (sh : Shape) → Good sh → (s : List ℕ) → length s ≡ s
 
 -- small write: "XORs the change into its two parity symbols", those of chains c-d and c+d, d being the row's height; no other parity changes
 abbrev pub TwoParities : Type 0
-TwoParities = (sh : Shape) (s : List ℕ) (c r : ℕ) (z x : List ℕ) → SmallWrite sh s c r z Done x → (p t : ℕ) → p < sh.n → t < sh.w
+TwoParities = (sh : Shape) (s : List ℕ) (c r : ℕ) (z x : List ℕ) → SmallWrite sh s c r z (Ok tt) x → (p t : ℕ) → p < sh.n → t < sh.w
     → ((p ≡ left sh.n c (height sh r)) ⊎ (p ≡ right sh.n c (height sh r))
     → byte sh x t 0 p ≡ byte sh s t 0 p ⊕ (byte sh s t (height sh r) c ⊕ get_or z t 0))
     × (p ≢ left sh.n c (height sh r) → p ≢ right sh.n c (height sh r) → byte sh x t 0 p ≡ byte sh s t 0 p)
@@ -113,7 +113,7 @@ SomeOuter = (sh : Shape) → Good sh → (lost : Losses) → ¬ Beyond sh.n lost
 
 -- fill: "Its answer is the outer-chain order, equal to rebuild's whenever rebuild accepts"
 abbrev pub FillIsRebuild : Type 0
-FillIsRebuild = (sh : Shape) (lost : Losses) (s : List ℕ) (room : ℕ) (x u y : List ℕ) → Rebuild sh lost s room Done x u → Outer sh lost s y → y ≡ x
+FillIsRebuild = (sh : Shape) (lost : Losses) (s : List ℕ) (room : ℕ) (x u y : List ℕ) → Rebuild sh lost s room (Ok tt) x u → Outer sh lost s y → y ≡ x
 
 -- fill: as for rebuild, the order in which two columns are named makes no difference, even where the survivors disagree
 abbrev pub FillEitherOrder : Type 0
@@ -123,12 +123,12 @@ FillEitherOrder = (sh : Shape) (a b : ℕ) (s : List ℕ) (c : ℕ) (buffer : Li
 -- fill, then choose: the part is the column of the stripe that rebuild would leave, whenever rebuild accepts
 abbrev pub FillThenChoose : Type 0
 FillThenChoose = (sh : Shape) (s : List ℕ) (lost : Losses) (room : ℕ) (x u : List ℕ) (c : ℕ) (buffer buffer' part : List ℕ)
-    → Rebuild sh lost s room Done x u → Fill sh s lost c buffer Done buffer' → Choose sh s lost c buffer' part → part ≡ column sh x c
+    → Rebuild sh lost s room (Ok tt) x u → Fill sh s lost c buffer (Ok tt) buffer' → Choose sh s lost c buffer' part → part ≡ column sh x c
 
 -- choose: "the part has length 0 exactly when fill, called with the same arguments, would be refused"
 abbrev pub ChooseEmpty : Type 0
 ChooseEmpty = (sh : Shape) (s : List ℕ) (lost : Losses) (c : ℕ) (buffer part buffer' : List ℕ) (a : Answer)
-    → Choose sh s lost c buffer part → Fill sh s lost c buffer a buffer' → (length part ≡ 0) ↔ (a ≢ Done)
+    → Choose sh s lost c buffer part → Fill sh s lost c buffer a buffer' → (length part ≡ 0) ↔ (a ≢ Ok tt)
 
 -- ---- the job program: st, input and s are as in Stepped, r what the step comes to
 
@@ -139,13 +139,13 @@ OfSteps P = (st : State) (input s : List ℕ) (room : ℕ) (r : Turn) (s' work' 
 -- it applies and none before it does, whatever those behind it say.
 abbrev pub ProgramOrder : Type 0
 ProgramOrder = OfSteps (λ st input r.
-    (0 < length input → Unframed input → (r.line.answer ≡ 12) × (r.line.kind ≡ 0) × (r.stops ≡ true))
-    × (¬ Unframed input → ¬ Clients (kind_of input) → Unknown (kind_of input) → r.line.answer ≡ 11)
+    (0 < length input → Unframed input → ((l : Line) × (r.line ≡ Some l) × (l.answer ≡ 12) × (l.kind ≡ 0)) × (r.stops ≡ true))
+    × (¬ Unframed input → ¬ Clients (kind_of input) → Unknown (kind_of input) → answer_on r.line ≡ 11)
     × (¬ Unframed input → (k : Kind) → kind_of input ≡ kind_number k
-    → (Early k st.held → r.line.answer ≡ 14) × (¬ Early k st.held → Wrong k (payload input) → r.line.answer ≡ 13)))
+    → (Early k st.held → answer_on r.line ≡ 14) × (¬ Early k st.held → Wrong k (payload input) → answer_on r.line ≡ 13)))
 
 -- "It prints one line for each record except those it skips." "Clean end of input prints nothing."
 abbrev pub LineForEach : Type 0
 LineForEach = OfSteps (λ st input r.
-    (0 < length input → Unframed input ⊎ (¬ Clients (kind_of input)) → r.shown ≡ true)
-    × ((length input ≡ 0) ⊎ ((¬ Unframed input) × Clients (kind_of input)) → r.shown ≡ false))
+    (0 < length input → Unframed input ⊎ (¬ Clients (kind_of input)) → is_some r.line ≡ true)
+    × ((length input ≡ 0) ⊎ ((¬ Unframed input) × Clients (kind_of input)) → is_some r.line ≡ false))

@@ -2,16 +2,16 @@
 -- Definitions only.
 -- What the language gives: a call is a step because its `ensures` is the contract named here, the checker having proved it of the code for all
 -- inputs; and a function can touch nothing that it was not lent, so that what a step does not name is as it was.
-use Rattle.std.specs.Prelude.{◌≡◌, ◌≢◌, Bool, true, false, List, [], ◌∷◌, ℕ, length, drop, eqb}
+use Rattle.std.specs.Prelude.{◌≡◌, ◌≢◌, Bool, true, false, List, [], ◌∷◌, ℕ, length, drop, eqb, Result}
 use Rattle.shape.specs.declared.Shape.{Shape}
-use Rattle.answer.specs.declared.Answer.{Answer}
+use Rattle.answer.specs.declared.Refusal.{Refusal}
+use Rattle.answer.specs.Answers.{Answer}
 use Rattle.stock.specs.declared.Priced.{Priced}
-use Rattle.stock.specs.declared.Stocked.{Stocked}
 use Rattle.stock.specs.Prices.{Prices}
 use Rattle.stock.specs.Stock.{Stock}
 use Rattle.rule.specs.declared.Losses.{Losses}
 use Rattle.checking.specs.declared.Checked.{Checked}
-use Rattle.locating.specs.declared.Located.{Located}
+use Rattle.locating.specs.declared.Damage.{Damage}
 use Rattle.encoding.specs.Encode.{Encode}
 use Rattle.checking.specs.Check.{Check}
 use Rattle.locating.specs.Locate.{Locate}
@@ -48,11 +48,11 @@ pub data Request : Type 0 where
 -- What it gets: an answer, a report, the bytes of a part, or what a step of the job program comes to.
 pub data Reply : Type 0 where
   answered : Answer → Reply
-  checked : Checked → Reply
-  located : Located → Reply
+  checked : Result Checked Refusal → Reply
+  located : Result Damage Refusal → Reply
   handed : (part : List ℕ) → Reply
-  priced : Priced → Reply
-  stocked : Stocked → Reply
+  priced : Result Priced Refusal → Reply
+  stocked : Result Shape Refusal → Reply
   stepped : Turn → Reply
 
 -- ---- what a call may change: own and work are the client's buffers and the workspace before it, own' and work' after

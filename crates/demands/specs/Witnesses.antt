@@ -2,12 +2,12 @@
 -- of the theorem `X` at such values, most of them the small stripes of specs/Cases.antt; also those under which a theorem says a part of what it says. What is
 -- said of numbers alone, as 0 < 5, is left out. The hypotheses of specs/OneAnswer.antt are the contracts themselves: `SomeAnswer` is their witness.
 -- Proof: proofs/Witnesses.antt; that the lists are the theorems' hypotheses, and all of them: proofs/Taken.antt.
-use Rattle.std.specs.Prelude.{◌≡◌, ◌≢◌, List, [], ◌∷◌, ℕ, zero, suc, ◌<◌, length, replicate}
-use Rattle.answer.specs.declared.Answer.TheVariants.{Done, BadBuffer, Disagree}
+use Rattle.std.specs.Prelude.{◌≡◌, ◌≢◌, List, [], ◌∷◌, ℕ, zero, suc, ◌<◌, length, replicate, Ok, Err}
+use Rattle.answer.specs.declared.Refusal.TheVariants.{BadBuffer, Disagree}
 use Rattle.shape.specs.Good.{Good, size, shape}
 use Rattle.shape.specs.Place.{height}
 use Rattle.shape.specs.Step.{left, right}
-use Rattle.answer.specs.Answers.{First, Applies, Rises}
+use Rattle.answer.specs.Answers.{Answer, First, Applies, Rises}
 use Rattle.shape.specs.Refusals.{shape_table}
 use Rattle.rule.specs.declared.Losses.TheVariants.{None, One, Two}
 use Rattle.rule.specs.Rule.{Obeys}
@@ -22,7 +22,7 @@ use Rattle.job.specs.declared.State.{State}
 use Rattle.job.specs.declared.Turn.{Turn}
 use Rattle.records.specs.Record.{kind_of, payload, Unframed, Clients}
 use Rattle.kinds.specs.Kinds.{shaping, rebuilding, kind_number, Unknown, Early, Wrong}
-use Rattle.job.specs.Step.{Stepped}
+use Rattle.job.specs.Step.{answer_on, Stepped}
 use Rattle.demands.specs.Sequences.{Buffers, rebuild, job, answered, stepped, Served, World, Event, Step, History, asked}
 use Rattle.demands.specs.Demands.{Lends}
 use Rattle.demands.specs.Cases.{woven, five, sh₅, stripe₅, lost_0_2, lost_4_0, cleared_0, flipped_0_1, Prints, start, after, session, session_lines}
@@ -38,10 +38,10 @@ zeros = replicate 4 0
 
 -- P6's is done. One of P9's stripe is refused: its damage is in column 0, and column 3 is named lost.
 abbrev pub Done₆ : Type 0
-Done₆ = Rebuild sh₅ (Two 0 2) lost_0_2 4 Done stripe₅ zeros
+Done₆ = Rebuild sh₅ (Two 0 2) lost_0_2 4 (Ok tt) stripe₅ zeros
 
 abbrev pub Refused₉ : Type 0
-Refused₉ = Rebuild sh₅ (One 3) cleared_0 4 Disagree cleared_0 zeros
+Refused₉ = Rebuild sh₅ (One 3) cleared_0 4 (Err Disagree) cleared_0 zeros
 
 -- P9's stripe with other bytes in column 3
 unfoldable pub cleared_0_lost_3 : List ℕ
@@ -68,10 +68,10 @@ world s z work = record { own = clients s z; work = work }
 
 -- the two rebuilds as calls: client 0's, beside others who have z, and client 1's, beside a client 0 who has s
 abbrev pub done_0 : List ℕ → Event
-done_0 z = record { client = 0; request = rebuild sh₅ (Two 0 2) 0; reply = answered Done; after = world stripe₅ z zeros }
+done_0 z = record { client = 0; request = rebuild sh₅ (Two 0 2) 0; reply = answered (Ok tt); after = world stripe₅ z zeros }
 
 abbrev pub refused_1 : List ℕ → Event
-refused_1 s = record { client = 1; request = rebuild sh₅ (One 3) 0; reply = answered Disagree; after = world s cleared_0 zeros }
+refused_1 s = record { client = 1; request = rebuild sh₅ (One 3) 0; reply = answered (Err Disagree); after = world s cleared_0 zeros }
 
 -- client 1 is refused, then client 0's rebuild is done in the same workspace
 abbrev pub both : List Event
@@ -81,15 +81,15 @@ both = refused_1 lost_0_2 ∷ done_0 cleared_0 ∷ []
 
 -- the refused rebuild, in a workspace that is not clear
 abbrev pub RefusedChangesNothingMeets : Type 0
-RefusedChangesNothingMeets = (Disagree ≢ Done)
-    × Served (rebuild sh₅ (One 3) 0) (client_with cleared_0 [] start) dirty (answered Disagree) (client_with cleared_0 [] start) zeros
+RefusedChangesNothingMeets = ◌≢◌ {A = Answer} (Err Disagree) (Ok tt)
+    × Served (rebuild sh₅ (One 3) 0) (client_with cleared_0 [] start) dirty (answered (Err Disagree)) (client_with cleared_0 [] start) zeros
 
 -- the shape (2,4), while (2,5) is held
 abbrev pub shape_2_4 : List ℕ
 shape_2_4 = 0x06 ∷ 0x00 ∷ 0x01 ∷ 0x00 ∷ 0x02 ∷ 0x04 ∷ 0x01 ∷ 0x00 ∷ []
 
 abbrev pub RefusedStepMeets : Type 0
-RefusedStepMeets = (r : Turn) × (r.line.answer ≢ 0)
+RefusedStepMeets = (r : Turn) × (answer_on r.line ≢ 0)
     × Served (job 0 0 0) (client_with stripe₅ shape_2_4 (after 1)) dirty (stepped r) (client_with stripe₅ shape_2_4 (after 2)) zeros
 
 -- after a refused call, and after one that was done
@@ -137,9 +137,9 @@ AsIfAloneMeets = History (world lost_0_2 cleared_0 dirty) both × (length dirty 
 -- accepted, and refused; in each the two stripes are not the same
 abbrev pub OldBytesMeets : Type 0
 OldBytesMeets = ((lost_0_2 ≢ stripe₅) × (length lost_0_2 ≡ length stripe₅) × Agrees sh₅ (Two 0 2) lost_0_2 stripe₅
-    × Done₆ × Rebuild sh₅ (Two 0 2) stripe₅ 4 Done stripe₅ zeros)
+    × Done₆ × Rebuild sh₅ (Two 0 2) stripe₅ 4 (Ok tt) stripe₅ zeros)
     × (cleared_0 ≢ cleared_0_lost_3) × (length cleared_0 ≡ length cleared_0_lost_3) × Agrees sh₅ (One 3) cleared_0 cleared_0_lost_3
-    × Refused₉ × Rebuild sh₅ (One 3) cleared_0_lost_3 4 Disagree cleared_0_lost_3 zeros
+    × Refused₉ × Rebuild sh₅ (One 3) cleared_0_lost_3 4 (Err Disagree) cleared_0_lost_3 zeros
 
 -- with a refused call among them
 abbrev pub NoResidueMeets : Type 0
@@ -156,7 +156,7 @@ ExplainsIsMendsMeets = OneExplainsMeets × Mends sh₅ cleared_0 0
 
 -- P8: of the parities 3 is to the left of column 4, 0 to the right, and 1 is neither
 abbrev pub TwoParitiesMeets : Type 0
-TwoParitiesMeets = SmallWrite sh₅ stripe₅ 4 0 (0xFF ∷ []) Done (woven (five 0x01 0x02 0x04 0x08 0xFF) (five 0xFD 0x05 0x0A 0xFB 0x09))
+TwoParitiesMeets = SmallWrite sh₅ stripe₅ 4 0 (0xFF ∷ []) (Ok tt) (woven (five 0x01 0x02 0x04 0x08 0xFF) (five 0xFD 0x05 0x0A 0xFB 0x09))
     × (3 ≡ left 5 4 (height sh₅ 0)) × (0 ≡ right 5 4 (height sh₅ 0)) × (1 ≢ left 5 4 (height sh₅ 0)) × (1 ≢ right 5 4 (height sh₅ 0))
 
 -- ---- the outer-chain order: one lost column where the survivors disagree; and P7, in which height 0 asks for height 1, the walk being 1
@@ -181,15 +181,15 @@ abbrev pub FillIsRebuildMeets : Type 0
 FillIsRebuildMeets = Done₆ × Outer sh₅ (Two 0 2) lost_0_2 stripe₅
 
 abbrev pub FillEitherOrderMeets : Type 0
-FillEitherOrderMeets = Fill sh₅ lost_0_2 (Two 0 2) 0 lent Done filled
+FillEitherOrderMeets = Fill sh₅ lost_0_2 (Two 0 2) 0 lent (Ok tt) filled
 
 abbrev pub FillThenChooseMeets : Type 0
-FillThenChooseMeets = Done₆ × Fill sh₅ lost_0_2 (Two 0 2) 0 lent Done filled × Choose sh₅ lost_0_2 (Two 0 2) 0 filled (0x01 ∷ 0x12 ∷ [])
+FillThenChooseMeets = Done₆ × Fill sh₅ lost_0_2 (Two 0 2) 0 lent (Ok tt) filled × Choose sh₅ lost_0_2 (Two 0 2) 0 filled (0x01 ∷ 0x12 ∷ [])
 
 -- a part, and none
 abbrev pub ChooseEmptyMeets : Type 0
-ChooseEmptyMeets = (Choose sh₅ lost_0_2 (Two 0 2) 0 lent (0xAA ∷ 0xBB ∷ []) × Fill sh₅ lost_0_2 (Two 0 2) 0 lent Done filled)
-    × Choose sh₅ lost_0_2 None 1 (0xAA ∷ []) [] × Fill sh₅ lost_0_2 None 1 (0xAA ∷ []) BadBuffer (0xAA ∷ [])
+ChooseEmptyMeets = (Choose sh₅ lost_0_2 (Two 0 2) 0 lent (0xAA ∷ 0xBB ∷ []) × Fill sh₅ lost_0_2 (Two 0 2) 0 lent (Ok tt) filled)
+    × Choose sh₅ lost_0_2 None 1 (0xAA ∷ []) [] × Fill sh₅ lost_0_2 None 1 (0xAA ∷ []) (Err BadBuffer) (0xAA ∷ [])
 
 -- ---- the job program: a step from its start
 

@@ -5,7 +5,7 @@ use Prim.Native.Nat.{ℕ, zero, suc, ◌≤◌}
 use native.Mathlib.Omega.{arith}
 use lib.ListN.{length}
 use Rattle.shape.specs.declared.Shape.{Shape}
-use Rattle.answer.specs.declared.Answer.{Answer}
+use Rattle.answer.specs.Answers.{Answer}
 use Rattle.shape.specs.Good.{Good, size}
 use Rattle.shape.specs.Place.{byte}
 use Rattle.shape.proofs.Made.{made, length_made, byte_made}

@@ -1,9 +1,8 @@
 -- ENCODE (document 01): the stripe s as lent, s' as left. Definitions only.
 use Rattle.std.specs.Prelude.{◌≡◌, List, ℕ, ◌≤◌, ◌<◌, length}
 use Rattle.shape.specs.declared.Shape.{Shape}
-use Rattle.answer.specs.declared.Answer.{Answer}
 use Rattle.shape.specs.Place.{byte}
-use Rattle.answer.specs.Answers.{number}
+use Rattle.answer.specs.Answers.{Answer, number}
 use Rattle.shape.specs.Refusals.{stripe_table}
 use Rattle.answer.specs.Outcome.{Outcome}
 use Rattle.rule.specs.Rule.{Obeys}

@@ -4,61 +4,61 @@
 
 ghost use Rattle.std.specs.Prelude.{◌≡◌, ◌+◌, ◌%◌, ◌≤◌, ◌<◌, length};
 ghost use Rattle.shape.specs.Good.{Good, size};
-ghost use Rattle.walking.specs.Walk.{Walks};
 ghost use Rattle.chain.specs.Chain.{Part};
 ghost use Rattle.encoding.specs.Settled.{Settled, Stretch};
 ghost use Rattle.encoding.specs.Encode.{Encoded, Encode};
 
 use answer::Answer;
+use block::LONGEST;
 use chain::others;
 use shape::Shape;
 use walking::{Walk, along};
 
-// Sets len bytes of the parity symbol of the chain that wk walks, and gives len.
-fn encode_part(sh: Shape, stripe: &mut [u8], wk: Walk, from: usize, len: usize) -> usize
-    requires { (Part sh stripe.old from len) × (Walks sh wk.p wk) }
-    ensures { (result ≡ len) × (Settled sh (Stretch wk.p from (from + result)) stripe.old stripe.new) }
+// Sets LEN bytes of the parity symbol of a chain, and gives LEN.
+fn encode_part<const LEN: usize>(stripe: &mut [u8], wk: Walk, from: usize) -> usize
+    requires { Part wk.shape stripe.old from LEN }
+    ensures { (result ≡ LEN) × (Settled wk.shape (Stretch wk.p from (from + result)) stripe.old stripe.new) }
 {
-    let acc = others(sh, stripe, wk, from, len);
-    block::put(&acc, stripe, wk.at + from, len);
-    len
+    let acc: [u8; LEN] = others(stripe, wk, from);
+    block::put(&acc, stripe, wk.at + from);
+    LEN
 }
 
 // Sets the first `whole` bytes of that parity symbol, a number of whole blocks.
-fn encode_blocks(sh: Shape, stripe: &mut [u8], wk: Walk, whole: usize)
-    requires { (Good sh) × (length stripe.old ≡ size sh) × (Walks sh wk.p wk) × (whole ≤ sh.w) × (whole % 128 ≡ 0) }
-    ensures { Settled sh (Stretch wk.p 0 whole) stripe.old stripe.new }
+fn encode_blocks(stripe: &mut [u8], wk: Walk, whole: usize)
+    requires sized { length stripe.old ≡ size wk.shape }
+    requires inside { whole ≤ wk.shape.w }
+    requires blocks { whole % 128 ≡ 0 }
+    ensures { Settled wk.shape (Stretch wk.p 0 whole) stripe.old stripe.new }
 {
     let mut from = 0;
     while from < whole {
-        from += encode_part(sh, stripe, wk, from, 128);
+        from += encode_part::<LONGEST>(stripe, wk, from);
     }
 }
 
 // Sets the next bytes of that parity symbol, as many as the longest length that fits, and gives that length.
-fn encode_some(sh: Shape, stripe: &mut [u8], wk: Walk, from: usize) -> usize
-    requires { (Good sh) × (length stripe.old ≡ size sh) × (Walks sh wk.p wk) × (from < sh.w) }
-    ensures { (1 ≤ result) × (from + result ≤ sh.w) × (Settled sh (Stretch wk.p from (from + result)) stripe.old stripe.new) }
+fn encode_some(stripe: &mut [u8], wk: Walk, from: usize) -> usize
+    requires sized { length stripe.old ≡ size wk.shape }
+    requires inside { from < wk.shape.w }
+    ensures { (1 ≤ result) × (from + result ≤ wk.shape.w) × (Settled wk.shape (Stretch wk.p from (from + result)) stripe.old stripe.new) }
 {
-    let left = sh.w - from;
-    if left < 16 {
-        return encode_part(sh, stripe, wk, from, 1);
+    match wk.shape.w - from {
+        ..16 => encode_part::<1>(stripe, wk, from),
+        16..64 => encode_part::<16>(stripe, wk, from),
+        _ => encode_part::<64>(stripe, wk, from),
     }
-    if left < 64 {
-        return encode_part(sh, stripe, wk, from, 16);
-    }
-    encode_part(sh, stripe, wk, from, 64)
 }
 
 // Sets the bytes of that parity symbol from `start` on.
-fn encode_tail(sh: Shape, stripe: &mut [u8], wk: Walk, start: usize)
-    requires { (Good sh) × (length stripe.old ≡ size sh) × (Walks sh wk.p wk) × (start ≤ sh.w) }
-    ensures { Settled sh (Stretch wk.p start sh.w) stripe.old stripe.new }
+fn encode_tail(stripe: &mut [u8], wk: Walk, start: usize)
+    requires sized { length stripe.old ≡ size wk.shape }
+    requires inside { start ≤ wk.shape.w }
+    ensures { Settled wk.shape (Stretch wk.p start wk.shape.w) stripe.old stripe.new }
 {
-    let w = sh.w;
     let mut from = start;
-    while from < w {
-        from += encode_some(sh, stripe, wk, from);
+    while from < wk.shape.w {
+        from += encode_some(stripe, wk, from);
     }
 }
 
@@ -67,10 +67,10 @@ fn encode_chain(sh: Shape, stripe: &mut [u8], p: usize)
     requires { (Good sh) × (length stripe.old ≡ size sh) × (p < sh.n) }
     ensures { Settled sh (Stretch p 0 sh.w) stripe.old stripe.new }
 {
-    let whole = sh.w - sh.w % 128;
     let wk = along(sh, p);
-    encode_blocks(sh, stripe, wk, whole);
-    encode_tail(sh, stripe, wk, whole);
+    let whole = sh.w - sh.w % LONGEST;
+    encode_blocks(stripe, wk, whole);
+    encode_tail(stripe, wk, whole);
 }
 
 // Sets every parity symbol.
@@ -78,11 +78,8 @@ fn encode_all(sh: Shape, stripe: &mut [u8])
     requires { (Good sh) × (length stripe.old ≡ size sh) }
     ensures { Encoded sh stripe.old stripe.new }
 {
-    let n = sh.n;
-    let mut p = 0;
-    while p < n {
+    for p in 0..sh.n {
         encode_chain(sh, stripe, p);
-        p += 1;
     }
 }
 
@@ -90,10 +87,7 @@ fn encode_all(sh: Shape, stripe: &mut [u8])
 pub fn encode(shape: Shape, stripe: &mut [u8]) -> Answer
     ensures { Encode shape stripe.old result stripe.new }
 {
-    match shape.stripe_refusal(stripe) {
-        Answer::Done => {}
-        answer => return answer,
-    }
+    shape.accept_stripe(stripe)?;
     encode_all(shape, stripe);
-    Answer::Done
+    Ok(())
 }

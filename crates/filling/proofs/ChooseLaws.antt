@@ -8,8 +8,8 @@ use native.Mathlib.Omega.{arith}
 use native.Mathlib.Decide.{ℕ_discrete}
 use lib.ListN.{length, take, length-take}
 use Rattle.shape.specs.declared.Shape.{Shape}
-use Rattle.answer.specs.declared.Answer.{Answer}
-use Rattle.answer.specs.declared.Answer.TheVariants.{Done}
+use Rattle.answer.specs.Answers.{Answer}
+use Rattle.std.specs.Prelude.{Ok}
 use Rattle.shape.specs.Place.{column_length, column}
 use Rattle.answer.specs.Answers.{number}
 use Rattle.shape.proofs.ColumnLaws.{length_column}
@@ -50,13 +50,13 @@ module _ (sh : Shape) (s : List ℕ) (lost : Losses) (wanted : ℕ) (buffer : Li
       at (no l) = ap length (h.survives l) ∙ length_column sh (good_m sh o.shape) (good_w sh o.shape) s o.stripe wanted o.within
 
   pub choose_empty : (part buffer' : List ℕ) (a : Answer) → Choose sh s lost wanted buffer part → Fill sh s lost wanted buffer a buffer'
-      → (length part ≡ 0) ↔ (a ≢ Done)
+      → (length part ≡ 0) ↔ (a ≢ (Ok tt))
   choose_empty part buffer' a (k, p) q = (full (ℕ_discrete k 0), (λ ne. ap length (p.refused (λ e. ne ((number_done a).0 (sym same ∙ e))))))
     where
       same : k ≡ number a
       same = first_one (fill_table sh s lost wanted (length buffer)) k (number a) p.answer q.answer
 
-      full : Dec (k ≡ 0) → length part ≡ 0 → a ≢ Done
+      full : Dec (k ≡ 0) → length part ≡ 0 → a ≢ (Ok tt)
       full (yes z) e d =
           let o = fill_done sh s lost wanted (length buffer) (rw z at p.answer) in
           let pos : 0 < column_length sh = mul-pos (good_m sh o.shape) (good_w sh o.shape) in

@@ -13,11 +13,12 @@ use lib.Seq.{ext_get_or}
 use lib.Dec.{ltb}
 use borrow.Author.Tests.{lt-ltb, le-ltb}
 use Rattle.shape.specs.declared.Shape.{Shape}
-use Rattle.answer.specs.declared.Answer.{Answer}
-use Rattle.answer.specs.declared.Answer.TheVariants.{Done, NoSuchPlace, SameColumn, BadBuffer}
+use Rattle.answer.specs.Answers.{Answer}
+use Rattle.std.specs.Prelude.{Ok, Err}
+use Rattle.answer.specs.declared.Refusal.TheVariants.{NoSuchPlace, SameColumn, BadBuffer}
 use Rattle.shape.specs.Good.{Good, size}
 use Rattle.shape.specs.Place.{column_length, place, byte}
-use Rattle.answer.specs.Answers.{number, First, Rises}
+use Rattle.answer.specs.Answers.{refusal_number, number, First, Rises}
 use Rattle.shape.specs.Refusals.{shape_table, stripe_table}
 use Rattle.shape.proofs.PlaceLaws.{height_at, offset_at, height_at_lt, offset_at_lt, height_at_place, offset_at_place, place_in, front_lt}
 use Rattle.shape.proofs.Made.{listed, length_listed, get_or_listed}
@@ -60,22 +61,22 @@ module _ (sh : Shape) (s : List ℕ) (lost : Losses) (wanted room : ℕ) where
       }
 
   -- past the refusals none applies
-  pub fill_passed : (a : Answer) → First (fill_table sh s lost wanted room) (number a) → a ≡ Done → First (fill_table sh s lost wanted room) 0
+  pub fill_passed : (a : Answer) → First (fill_table sh s lost wanted room) (number a) → a ≡ (Ok tt) → First (fill_table sh s lost wanted room) 0
   unfolding number
   fill_passed a h e = rw e at h
 
   pub fill_ready : Ready (fill_table sh s lost wanted room)
-  unfolding fill_table number
+  unfolding fill_table number refusal_number
   fill_ready = stripe_ready_rest sh s _ (λ g e. (
-    NoSuchPlace,
+    (Err NoSuchPlace),
     refl,
     either? (beyond? sh.n lost) (dec_le sh.n wanted),
     λ p. (
-      SameColumn,
+      (Err SameColumn),
       refl,
       twice? lost,
       λ q.
-          (BadBuffer, refl, dec_lt room (column_length sh), λ r. tt),
+          ((Err BadBuffer), refl, dec_lt room (column_length sh), λ r. tt),
     ),
   ))
 

@@ -2,10 +2,10 @@
 use mathlib.Core.Path.{◌≡◌, refl, ap}
 use mathlib.Core.Logic.{◌≢◌, inr}
 use mathlib.Core.List.{List, []}
-use Prim.Native.Nat.{ℕ, ◌-◌}
+use Prim.Native.Nat.{ℕ}
 use native.Mathlib.Omega.{arith}
 use denote.Ref.{Bor}
-use lib.ListN.{length, take, drop}
+use lib.ListN.{length, take}
 use Rattle.shape.specs.declared.Shape.{Shape}
 use Rattle.shape.specs.Place.{column_length}
 use Rattle.answer.specs.Answers.{First}
@@ -21,8 +21,8 @@ use Rattle.filling.specs.HandedBack.{HandedBack}
 use Rattle.filling.proofs.FillLaws.{fill_done}
 
 -- the front of the buffer as the code cuts it out
-pub front_part : (sh : Shape) (buffer : List ℕ) (L : ℕ) → L ≡ column_length sh → take (L - 0) (drop 0 buffer) ≡ take (column_length sh) buffer
-front_part sh buffer L e = let k : L - 0 ≡ column_length sh = omega arith in rw k refl
+pub front_part : (sh : Shape) (buffer : List ℕ) (L : ℕ) → L ≡ column_length sh → take L buffer ≡ take (column_length sh) buffer
+front_part sh buffer L e = rw e refl
 
 module _ (sh : Shape) (s : Bor (List ℕ)) (lost : Losses) (wanted : ℕ) (buffer r : Bor (List ℕ)) where
   pub back_none : (k : ℕ) → First (fill_table sh s.now lost wanted (length buffer.now)) k → k ≢ 0 → r.now ≡ [] → HandedBack sh s lost wanted buffer r

@@ -1,7 +1,7 @@
 -- FILL (document 01, "Column read"): the column `wanted` of the stripe s into an answer buffer; buffer' is the buffer as left. Definitions only.
 use Rattle.std.specs.Prelude.{◌≡◌, ◌⊎◌, List, [], ◌∷◌, ◌++◌, ℕ, ◌≤◌, ◌<◌, length, get_or}
 use Rattle.shape.specs.declared.Shape.{Shape}
-use Rattle.answer.specs.declared.Answer.{Answer}
+use Rattle.answer.specs.Answers.{Answer}
 use Rattle.shape.specs.Place.{column_length, place, byte}
 use Rattle.answer.specs.Answers.{number, Table}
 use Rattle.shape.specs.Refusals.{stripe_table}

@@ -1,14 +1,14 @@
 -- FILLING (document 01, "Column read"): a lost column solved in the room of one column. Definitions only.
-use Rattle.std.specs.Prelude.{◌≡◌, ◌≢◌, ◌⊎◌, List, ℕ, ◌-◌, ◌*◌, ◌%◌, ◌≤◌, ◌<◌, length, get_or}
+use Rattle.std.specs.Prelude.{◌≡◌, ◌≢◌, Option, None, Some, List, ℕ, ◌-◌, ◌*◌, ◌%◌, ◌≤◌, ◌<◌, length, get_or}
 use Rattle.shape.specs.Good.{Good, size}
 use Rattle.shape.specs.Place.{column_length, byte}
 use Rattle.solving.specs.declared.Gone.{Gone}
 use Rattle.solving.specs.Outer.{column_of, base_of}
 
--- r is the side of the column wanted, and 2 where it is neither's
-pub record SideOf (x : Gone) (wanted r : ℕ) : Type 0 where
-  pub lost : r < 2 → wanted ≡ column_of x r
-  pub neither : 2 ≤ r → (wanted ≢ x.first) × (wanted ≢ x.second)
+-- r is the side of the column wanted, and none where it is neither's
+abbrev pub SideOf : Gone → ℕ → Option ℕ → Type 0
+SideOf x wanted (Some side) = (side ≤ 1) × (wanted ≡ column_of x side)
+SideOf x wanted None = (wanted ≢ x.first) × (wanted ≢ x.second)
 
 -- the lost columns x with a side's column at the start of the buffer, and the other's as many symbols behind it as the walk is long
 abbrev pub narrowed : Gone → ℕ → Gone
@@ -49,7 +49,3 @@ StandFrom g v side from out = (d : ℕ) → d < g.shape.m → from ≤ d % (2 * 
 pub record ColumnIn (g : Gone) (v : ℕ → ℕ → ℕ → ℕ) (side : ℕ) (out out' : List ℕ) : Type 0 where
   pub front : (d : ℕ) → d < g.shape.m → Stands g v side d out'
   pub rest : Untouched g out out'
-
--- r is the lesser of a and b
-abbrev pub Lesser : ℕ → ℕ → ℕ → Type 0
-Lesser a b r = (r ≤ a) × (r ≤ b) × ((r ≡ a) ⊎ (r ≡ b))

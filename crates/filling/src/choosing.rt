@@ -1,8 +1,7 @@
 // Choose: the wanted column from the stripe or from the answer buffer, as the caller's own bytes.
 ghost use Rattle.filling.specs.HandedBack.{HandedBack};
 
-use crate::filling::fill_refusal;
-use answer::Answer;
+use crate::filling::accept;
 use handing::column;
 use rule::{Losses, is_lost};
 use shape::Shape;
@@ -17,12 +16,11 @@ pub fn choose<'a>(
 ) -> &'a [u8]
     ensures { HandedBack shape stripe.entry lost wanted answer.entry result }
 {
-    match fill_refusal(shape, stripe, lost, wanted, answer.len()) {
-        Answer::Done => {}
-        _ => return &answer[0..0],
+    if accept(shape, stripe, lost, wanted, answer.len()).is_err() {
+        return &answer[..0];
     }
     if is_lost(lost, wanted) {
-        return &answer[0..shape.column_length()];
+        return &answer[..shape.column_length()];
     }
     column(shape, stripe, wanted)
 }

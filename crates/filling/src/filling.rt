@@ -4,16 +4,16 @@ ghost use Rattle.answer.specs.Answers.{number, First};
 ghost use Rattle.listing.specs.Places.{Table};
 ghost use Rattle.solving.specs.Outer.{Solved, Stores, Ready};
 ghost use Rattle.filling.specs.Fill.{fill_table, Fill};
-ghost use Rattle.filling.specs.Filling.{SideOf, narrowed, Fillable, ColumnIn, Lesser};
+ghost use Rattle.filling.specs.Filling.{SideOf, narrowed, Fillable, ColumnIn};
 
-use answer::Answer;
+use answer::{Answer, Refusal};
 use rule::{Losses, beyond, twice};
 use shape::Shape;
 use solving::{Gone, solve_alone, solve_first, solve_second};
 use staging::read;
 
-// What fill and choose are refused for with an answer buffer of `room` bytes; Done where nothing applies.
-pub(crate) fn fill_refusal(
+// Asks what fill and choose ask, with an answer buffer of `room` bytes: the first refusal that applies refuses them.
+pub(crate) fn accept(
     shape: Shape,
     stripe: &[u8],
     lost: Losses,
@@ -22,36 +22,33 @@ pub(crate) fn fill_refusal(
 ) -> Answer
     ensures { First (fill_table shape stripe.now lost wanted room) (number result) }
 {
-    match shape.stripe_refusal(stripe) {
-        Answer::Done => {}
-        answer => return answer,
-    }
+    shape.accept_stripe(stripe)?;
     if beyond(shape.n, lost) {
-        return Answer::NoSuchPlace;
+        return Err(Refusal::NoSuchPlace);
     }
     if shape.n <= wanted {
-        return Answer::NoSuchPlace;
+        return Err(Refusal::NoSuchPlace);
     }
     if twice(lost) {
-        return Answer::SameColumn;
+        return Err(Refusal::SameColumn);
     }
     if room < shape.column_length() {
-        return Answer::BadBuffer;
+        return Err(Refusal::BadBuffer);
     }
-    Answer::Done
+    Ok(())
 }
 
-// The side of the column that is wanted; 2 if it survives.
-fn side_of(x: Gone, wanted: usize) -> usize
+// The side of the column that is wanted; None if it survives.
+fn side_of(x: Gone, wanted: usize) -> Option<usize>
     ensures { SideOf x wanted result }
 {
     if wanted == x.first {
-        return 0;
+        return Some(0);
     }
     if wanted == x.second {
-        return 1;
+        return Some(1);
     }
-    2
+    None
 }
 
 // The same lost columns in one column's room, a side's column at its start: a symbol that is asked for stands where the one that asks for it will.
@@ -83,25 +80,13 @@ fn solve(s: &[u8], out: &mut [u8], table: &[u16; 32], x: Gone, side: usize, d: u
     }
 }
 
-// The lesser of two numbers.
-fn lesser(a: usize, b: usize) -> usize
-    ensures { Lesser a b result }
-{
-    if a < b {
-        return a;
-    }
-    b
-}
-
 // Solves a side's column where it asks for the other's. The way from a symbol comes back to its side two walks higher, so the starts are the heights below two walks.
 fn fill_pair(s: &[u8], out: &mut [u8], table: &[u16; 32], x: Gone, side: usize)
     requires { (Fillable x side s.now out.old) × (Table x.shape table.now) }
     ensures { (length out.new ≡ length out.old) × ((v : ℕ → ℕ → ℕ → ℕ) → Solved x s.now v → ColumnIn x v side out.old out.new) }
 {
-    let mut left = lesser(2 * x.walk, x.shape.m);
-    while 0 < left {
-        left -= 1;
-        solve(s, out, table, x, side, left);
+    for d in (0..x.shape.m.min(2 * x.walk)).rev() {
+        solve(s, out, table, x, side, d);
     }
 }
 
@@ -122,14 +107,10 @@ fn fill_column(s: &[u8], out: &mut [u8], x: Gone, side: usize)
 pub fn fill(shape: Shape, stripe: &[u8], lost: Losses, wanted: usize, answer: &mut [u8]) -> Answer
     ensures { Fill shape stripe.now lost wanted answer.old result answer.new }
 {
-    match fill_refusal(shape, stripe, lost, wanted, answer.len()) {
-        Answer::Done => {}
-        refused => return refused,
-    }
+    accept(shape, stripe, lost, wanted, answer.len())?;
     let x = read(shape, lost);
-    let side = side_of(x, wanted);
-    if side < 2 {
+    if let Some(side) = side_of(x, wanted) {
         fill_column(stripe, answer, narrow(x, side), side);
     }
-    Answer::Done
+    Ok(())
 }

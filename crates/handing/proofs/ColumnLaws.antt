@@ -5,8 +5,9 @@ use Prim.Native.Nat.{ℕ}
 use native.Mathlib.Omega.{arith}
 use native.Mathlib.Decide.{dec_le}
 use Rattle.shape.specs.declared.Shape.{Shape}
-use Rattle.answer.specs.declared.Answer.TheVariants.{NoSuchPlace}
-use Rattle.answer.specs.Answers.{number, Rises}
+use Rattle.std.specs.Prelude.{Err}
+use Rattle.answer.specs.declared.Refusal.TheVariants.{NoSuchPlace}
+use Rattle.answer.specs.Answers.{refusal_number, number, Rises}
 use Rattle.shape.specs.Refusals.{shape_table, stripe_table}
 use Rattle.answer.proofs.OutcomeLaws.{part_one, part_some}
 use Rattle.shape.proofs.Ready.{stripe_ready_rest}
@@ -21,5 +22,5 @@ module _ (sh : Shape) (s : List ℕ) (c : ℕ) where
   column_one = part_one (λ h x y u v. u ∙ sym v)
 
   pub column_some : (x : List ℕ) × ColumnRead sh s c x
-  unfolding number column_table
-  column_some = part_some {T = column_table sh s c} [] _ (stripe_ready_rest sh s _ (λ g e. (NoSuchPlace, refl, dec_le sh.n c, λ p. tt))) (λ h. (_, refl))
+  unfolding number refusal_number column_table
+  column_some = part_some {T = column_table sh s c} [] _ (stripe_ready_rest sh s _ (λ g e. ((Err NoSuchPlace), refl, dec_le sh.n c, λ p. tt))) (λ h. (_, refl))

@@ -3,19 +3,14 @@
 
 ghost use Rattle.handing.specs.Handed.{Handed};
 
-use answer::Answer;
 use shape::Shape;
 
 // The bytes of a column, from column·m·w on in the stripe itself; a part of length 0 where the request is refused.
 pub fn column(shape: Shape, stripe: &[u8], column: usize) -> &[u8]
     ensures { Handed shape stripe.entry column result }
 {
-    match shape.stripe_refusal(stripe) {
-        Answer::Done => {}
-        _ => return &stripe[0..0],
-    }
-    if shape.n <= column {
-        return &stripe[0..0];
+    if shape.accept_stripe(stripe).is_err() || shape.n <= column {
+        return &stripe[..0];
     }
     let length = shape.column_length();
     let at = column * length;

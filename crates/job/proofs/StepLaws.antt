@@ -4,19 +4,31 @@
 -- step_shown, step_hidden.
 use Rattle.std.proofs.Common.{◌≡◌, ℕ, ◌+◌, ◌<◌, true, false, ◌≢◌, ◌⊎◌, List, length, sym, refl, ap, ◌∙◌, inl, inr, arith}
 use native.Mathlib.Decide.{dec_le, dec_lt, ℕ_discrete}
+use Rattle.std.specs.Prelude.{Option, None, Some, is_some}
 use Rattle.answer.specs.Answers.{First}
 use Rattle.answer.proofs.AnswersLaws.{first_one}
 use Rattle.answer.proofs.OutcomeLaws.{either?}
 use Rattle.rebuild.specs.Rebuild.{Cleared}
 use Rattle.records.specs.Record.{counted, kind_of, payload, Unframed, Clients}
+use Rattle.line.specs.declared.Line.{Line}
+use Rattle.kinds.specs.declared.Told.{Told}
 use Rattle.kinds.specs.declared.Deed.{Deed}
 use Rattle.kinds.specs.Kinds.{Kind, kind_number, Unknown, Early, Wrong, Of, job_table, deed, skipped, Does, TellsOf}
 use Rattle.kinds.proofs.BufferLaws.{cleared_one, cleared_some}
 use Rattle.kinds.proofs.KindsLaws.{kind_low, job_11, job_14, job_13}
-use Rattle.kinds.proofs.DoesLaws.{tells_one, tells_some, tells_refused, tells_shown}
+use Rattle.kinds.proofs.DoesLaws.{told_number, tells_one, tells_some, tells_refused, tells_shown}
 use Rattle.job.specs.declared.State.{State}
 use Rattle.job.specs.declared.Turn.{Turn}
-use Rattle.job.specs.Step.{step_of, stopped, ended, Stepped}
+use Rattle.job.specs.Step.{next, line_of, answer_on, step_of, stopped, ended, Stepped}
+
+-- the line says what is told, and there is one if anything is
+answer_of_line : (number kind : ℕ) (t : Option Told) → answer_on (line_of number kind t) ≡ told_number t
+answer_of_line number kind None = refl
+answer_of_line number kind (Some t) = refl
+
+line_if_told : (number kind : ℕ) (t : Option Told) → is_some (line_of number kind t) ≡ is_some t
+line_if_told number kind None = refl
+line_if_told number kind (Some t) = refl
 
 unframed? : (input : List ℕ) → Dec (Unframed input)
 unframed? input = either? (dec_lt (length input) 2) (either? (dec_lt (counted input) 2) (either? (dec_lt 4100 (counted input)) (dec_lt (length input) (2 + counted input))))
@@ -98,7 +110,7 @@ module _ (st : State) (input s : List ℕ) (room : ℕ) where
 
   module _ (r : Turn) (x u : List ℕ) (step : Stepped st input s room r x u) where
     -- the shape held and the buffer stay
-    pub step_refused : r.line.answer ≢ 0 → (r.state.held ≡ st.held) × (x ≡ s)
+    pub step_refused : answer_on r.line ≢ 0 → (r.state.held ≡ st.held) × (x ≡ s)
     unfolding step_of stopped ended
     step_refused n = at (ℕ_discrete (length input) 0) (unframed? input) (dec_le 32768 (kind_of input))
       where
@@ -111,52 +123,52 @@ module _ (st : State) (input s : List ℕ) (room : ℕ) where
         at (no z) (no w) (yes c) = let (e, f) = step.client w c in (held _ e, f)
         at (no z) (no w) (no c) =
             let (d, t, e) = step.known w c in
-            let (k, l) = tells_refused (payload input) s room (kind_of input) st.held d x u t (λ z. n (ap (λ (r : Turn). r.line.answer) e ∙ z)) in
+            let (k, l) = tells_refused (payload input) s room (kind_of input) st.held d x u t (λ z. n (ap (λ (r : Turn). answer_on r.line) e ∙ answer_of_line (next st.records) (kind_of input) d.told ∙ z)) in
             (held _ e ∙ k, l)
 
     -- ---- the program's own refusals, each by its row
 
     refused_by : (k : ℕ) → k ≢ 0 → ¬ Unframed input → ¬ Clients (kind_of input) → First (job_table st.held (kind_of input) (payload input)) k
-        → r.line.answer ≡ k
+        → answer_on r.line ≡ k
     unfolding step_of
-    refused_by k n w c f = let (d, (j, g, t), e) = step.known w c in ap (λ (r : Turn). r.line.answer) e ∙ at j d g t
+    refused_by k n w c f = let (d, (j, g, t), e) = step.known w c in ap (λ (r : Turn). answer_on r.line) e ∙ answer_of_line (next st.records) (kind_of input) d.told ∙ at j d g t
       where
         at : (j : ℕ) (d : Deed) → First (job_table st.held (kind_of input) (payload input)) j
-            → ((j ≢ 0) × (d ≡ deed st.held j 0 0) × (x ≡ s)) ⊎ ((j ≡ 0) × Of (kind_of input) (λ k. Does k st.held (payload input) s room d x u)) → d.answer ≡ k
-        at j d g (inl t) = ap (λ (d : Deed). d.answer) t.1 ∙ first_one (job_table st.held (kind_of input) (payload input)) j k g f
+            → ((j ≢ 0) × (d ≡ deed st.held j 0 0) × (x ≡ s)) ⊎ ((j ≡ 0) × Of (kind_of input) (λ k. Does k st.held (payload input) s room d x u)) → told_number d.told ≡ k
+        at j d g (inl t) = ap (λ (d : Deed). told_number d.told) t.1 ∙ first_one (job_table st.held (kind_of input) (payload input)) j k g f
         at j d g (inr t) = absurd (n (first_one (job_table st.held (kind_of input) (payload input)) k j f g ∙ t.0))
 
-    pub step_12 : 0 < length input → Unframed input → (r.line.answer ≡ 12) × (r.line.kind ≡ 0) × (r.stops ≡ true)
+    pub step_12 : 0 < length input → Unframed input → ((l : Line) × (r.line ≡ Some l) × (l.answer ≡ 12) × (l.kind ≡ 0)) × (r.stops ≡ true)
     unfolding stopped
-    step_12 l w = let e = (step.broken l w).0 in (ap (λ (r : Turn). r.line.answer) e, ap (λ (r : Turn). r.line.kind) e, ap (λ (r : Turn). r.stops) e)
+    step_12 l w = let e = (step.broken l w).0 in ((_, ap (λ (r : Turn). r.line) e, refl, refl), ap (λ (r : Turn). r.stops) e)
 
-    pub step_11 : ¬ Unframed input → ¬ Clients (kind_of input) → Unknown (kind_of input) → r.line.answer ≡ 11
+    pub step_11 : ¬ Unframed input → ¬ Clients (kind_of input) → Unknown (kind_of input) → answer_on r.line ≡ 11
     step_11 w c z = refused_by 11 (omega arith) w c (job_11 st.held (kind_of input) (payload input) z)
 
     module _ (w : ¬ Unframed input) (k : Kind) (is : kind_of input ≡ kind_number k) where
       known : ¬ Clients (kind_of input)
       known c = omega (arith, kind_low k)
 
-      pub step_14 : Early k st.held → r.line.answer ≡ 14
+      pub step_14 : Early k st.held → answer_on r.line ≡ 14
       step_14 z = refused_by 14 (omega arith) w known (job_14 st.held (kind_of input) (payload input) k is z)
 
-      pub step_13 : ¬ Early k st.held → Wrong k (payload input) → r.line.answer ≡ 13
+      pub step_13 : ¬ Early k st.held → Wrong k (payload input) → answer_on r.line ≡ 13
       step_13 n z = refused_by 13 (omega arith) w known (job_13 st.held (kind_of input) (payload input) k is n z)
 
     -- ---- a line for each record but a client's, and none at the end
 
-    pub step_hidden : (length input ≡ 0) ⊎ ((¬ Unframed input) × Clients (kind_of input)) → r.shown ≡ false
+    pub step_hidden : (length input ≡ 0) ⊎ ((¬ Unframed input) × Clients (kind_of input)) → is_some r.line ≡ false
     unfolding step_of ended
-    step_hidden (inl z) = ap (λ (r : Turn). r.shown) (step.end z).0
-    step_hidden (inr z) = ap (λ (r : Turn). r.shown) (step.client z.0 z.1).0
+    step_hidden (inl z) = ap (λ (r : Turn). is_some r.line) (step.end z).0
+    step_hidden (inr z) = ap (λ (r : Turn). is_some r.line) (step.client z.0 z.1).0
 
-    pub step_shown : 0 < length input → Unframed input ⊎ (¬ Clients (kind_of input)) → r.shown ≡ true
+    pub step_shown : 0 < length input → Unframed input ⊎ (¬ Clients (kind_of input)) → is_some r.line ≡ true
     unfolding step_of stopped
-    step_shown l (inl w) = ap (λ (r : Turn). r.shown) (step.broken l w).0
+    step_shown l (inl w) = ap (λ (r : Turn). is_some r.line) (step.broken l w).0
     step_shown l (inr c) = at (unframed? input)
       where
-        at : Dec (Unframed input) → r.shown ≡ true
-        at (yes w) = ap (λ (r : Turn). r.shown) (step.broken l w).0
+        at : Dec (Unframed input) → is_some r.line ≡ true
+        at (yes w) = ap (λ (r : Turn). is_some r.line) (step.broken l w).0
         at (no w) =
             let (d, t, e) = step.known w c in
-            ap (λ (r : Turn). r.shown) e ∙ tells_shown (payload input) s room (kind_of input) st.held d x u t
+            ap (λ (r : Turn). is_some r.line) e ∙ line_if_told (next st.records) (kind_of input) d.told ∙ tells_shown (payload input) s room (kind_of input) st.held d x u t

@@ -1,8 +1,10 @@
 -- ONE STEP OF THE JOB PROGRAM (document 01): the state st, what is left of the input, the stripe's buffer s and a workspace of `room` bytes, whatever it holds;
 -- r is what the step comes to, s' and work' the buffers as left. Definitions only.
-use Rattle.std.specs.Prelude.{◌≡◌, ℕ, ◌+◌, ◌%◌, ◌<◌, true, false, List, length}
+use Rattle.std.specs.Prelude.{◌≡◌, ℕ, ◌+◌, ◌%◌, ◌<◌, true, false, List, length, Option, None, Some}
 use Rattle.rebuild.specs.Rebuild.{Cleared}
 use Rattle.records.specs.Record.{counted, kind_of, payload, Unframed, Clients}
+use Rattle.line.specs.declared.Line.{Line}
+use Rattle.kinds.specs.declared.Told.{Told}
 use Rattle.kinds.specs.declared.Deed.{Deed}
 use Rattle.kinds.specs.Kinds.{skipped, TellsOf}
 use Rattle.job.specs.declared.State.{State}
@@ -12,12 +14,21 @@ use Rattle.job.specs.declared.Turn.{Turn}
 unfoldable pub next : ℕ → ℕ
 next records = (records + 1) % 18446744073709551616
 
+-- the line of a record, if it tells anything: its number, its kind, and what is told
+abbrev pub line_of : ℕ → ℕ → Option Told → Option Line
+line_of number kind None = None
+line_of number kind (Some told) = Some (record { number = number; kind = kind; answer = told.answer; x = told.x; y = told.y })
+
+-- the answer on the line, and whether there is one; without a line the answer is 0
+abbrev pub answer_on : Option Line → ℕ
+answer_on None = 0
+answer_on (Some line) = line.answer
+
 -- the step of the next record, of this kind and length, from what it comes to
 unfoldable pub step_of : State → ℕ → Deed → ℕ → Turn
 step_of st kind d taken = record {
   state = record { held = d.held; records = next st.records };
-  line = record { number = next st.records; kind = kind; answer = d.answer; x = d.x; y = d.y };
-  shown = d.shown;
+  line = line_of (next st.records) kind d.told;
   taken = taken;
   stops = false;
 }
@@ -26,8 +37,7 @@ step_of st kind d taken = record {
 unfoldable pub stopped : State → ℕ → Turn
 stopped st taken = record {
   state = record { held = st.held; records = next st.records };
-  line = record { number = next st.records; kind = 0; answer = 12; x = 0; y = 0 };
-  shown = true;
+  line = Some (record { number = next st.records; kind = 0; answer = 12; x = 0; y = 0 });
   taken = taken;
   stops = true;
 }
@@ -36,8 +46,7 @@ stopped st taken = record {
 unfoldable pub ended : State → Turn
 ended st = record {
   state = st;
-  line = record { number = 0; kind = 0; answer = 0; x = 0; y = 0 };
-  shown = false;
+  line = None;
   taken = 0;
   stops = true;
 }

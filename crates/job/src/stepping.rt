@@ -12,7 +12,7 @@ use records::{two_bytes, unframed};
 fn attempt(state: State, input: &[u8], stripe: &mut [u8], work: &mut [u8]) -> Turn
     ensures { (length work.new ≡ length work.old) × ((clear : List ℕ) → Cleared (length work.old) clear → Stepped state input.now stripe.old (length work.old) result stripe.new clear) }
 {
-    if input.len() == 0 {
+    if input.is_empty() {
         return end(state);
     }
     if unframed(input) {
@@ -20,12 +20,12 @@ fn attempt(state: State, input: &[u8], stripe: &mut [u8], work: &mut [u8]) -> Tu
     }
     let after = 2 + two_bytes(input, 0);
     let kind = two_bytes(input, 2);
-    let held = state.held;
-    let deed = decide(held, kind, &input[4..after], stripe, work);
+    let deed = decide(state.held, kind, &input[4..after], stripe, work);
     made(state, kind, deed, after)
 }
 
-// Takes the next record of the input: the next state, and the fields of its line. The workspace is all zero after it, whatever the record was.
+// Takes the next record of the input: the next state, and the fields of its line. The workspace is all zero after it,
+// whatever the record was.
 pub fn step(state: State, input: &[u8], stripe: &mut [u8], work: &mut [u8]) -> Turn
     ensures { Stepped state input.now stripe.old (length work.old) result stripe.new work.new }
 {

@@ -1,6 +1,6 @@
 -- Laws of what a record does: one outcome and some, of each kind and of a record that is no client's; a refused record changes nothing.
 -- Each by the law of the call that the kind stands for.
--- To cite: Looks; tells_one, tells_some, tells_refused, tells_shown.
+-- To cite: Looks; told_number; tells_one, tells_some, tells_refused, tells_shown.
 use mathlib.Core.Path.{◌≡◌, refl, sym, ap, ◌∙◌, subst}
 use mathlib.Core.Logic.{◌≢◌, inl, inr}
 use mathlib.Core.Bool.{true, cond}
@@ -10,16 +10,18 @@ use native.Mathlib.Decide.{ℕ_discrete}
 use lib.ListN.{length, get_or, drop}
 use lib.Dec.{eqb}
 use Rattle.shape.specs.declared.Shape.{Shape}
-use Rattle.answer.specs.declared.Answer.{Answer}
-use Rattle.answer.specs.Answers.{number, Table, First}
+use Rattle.std.specs.Prelude.{Option, None, Some, Result, is_some}
+use Rattle.answer.specs.declared.Refusal.{Refusal}
+use Rattle.answer.specs.Answers.{Answer, number, Table, First}
 use Rattle.shape.specs.Refusals.{shape_table}
 use Rattle.answer.proofs.AnswersLaws.{first_one}
 use Rattle.shape.proofs.Ready.{shape_ready}
 use Rattle.rule.specs.Losses.{named}
 use Rattle.checking.specs.declared.Checked.{Checked}
 use Rattle.checking.proofs.CheckLaws.{check_one, check_some}
-use Rattle.locating.specs.declared.Located.{Located}
-use Rattle.locating.specs.Locate.{found}
+use Rattle.checking.specs.Check.{counts}
+use Rattle.locating.specs.declared.Damage.{Damage}
+use Rattle.locating.specs.Locate.{finding}
 use Rattle.locating.proofs.LocateLaws.{locate_one, locate_some}
 use Rattle.writing.specs.Write.{SmallWrite}
 use Rattle.storing.specs.Store.{RawStore}
@@ -27,19 +29,23 @@ use Rattle.writing.proofs.WriteLaws.{write_one, write_some}
 use Rattle.storing.proofs.StoreLaws.{store_one, store_some}
 use Rattle.rebuild.specs.Rebuild.{Rebuild, Cleared}
 use Rattle.rebuild.proofs.RebuildLaws.{rebuild_one, rebuild_some}
-use Rattle.kinds.specs.declared.Held.{Held}
-use Rattle.kinds.specs.declared.Held.TheVariants.{None, Some}
+use Rattle.kinds.specs.declared.Told.{Told}
 use Rattle.kinds.specs.declared.Deed.{Deed}
-use Rattle.kinds.specs.Kinds.{Kind, shaping, writing, storing, checking, locating, rebuilding, Early, job_table, deed, named_shape, Shapes, stripe, Inside, Does, TellsOf}
+use Rattle.kinds.specs.Kinds.{Held, Kind, shaping, writing, storing, checking, locating, rebuilding, Early, job_table, deed, named_shape, Shapes, stripe, Inside, Does, TellsOf}
 use Rattle.kinds.proofs.BufferLaws.{inside_one, inside_kept, inside_some, zeros_are, zeros_some}
 use Rattle.kinds.proofs.FrontLaws.{outcome_long}
 use Rattle.kinds.proofs.KindsLaws.{of_kind, table_some, job_ready, job_passed}
 
 -- ---- each kind: one outcome, some, and where it is refused nothing changed
 
+-- the answer that is told, 0 where nothing is
+abbrev pub told_number : Option Told → ℕ
+told_number None = 0
+told_number (Some told) = told.answer
+
 -- the shape held is h and the buffer s' is s, if the line's answer is no 0
 abbrev Unchanged : Held → List ℕ → Deed → List ℕ → Type 0
-Unchanged h s d s' = d.answer ≢ 0 → (d.held ≡ h) × (s' ≡ s)
+Unchanged h s d s' = told_number d.told ≢ 0 → (d.held ≡ h) × (s' ≡ s)
 
 module _ (h : Held) (p s : List ℕ) where
   -- of the shape that the payload names
@@ -64,7 +70,7 @@ module _ (h : Held) (p s : List ℕ) where
       at k f (no e) = (_, s, (k, f, inr (e, refl, refl)))
 
   shapes_refused : (d : Deed) (x : List ℕ) → Shapes h p s d x → Unchanged h s d x
-  shapes_refused d x (k, f, inl u) n = absurd (n (ap (λ (d : Deed). d.answer) u.1.is))
+  shapes_refused d x (k, f, inl u) n = absurd (n (ap (λ (d : Deed). told_number d.told) u.1.is))
   shapes_refused d x (k, f, inr u) n = (ap (λ (d : Deed). d.held) u.1, u.2)
 
 module _ (sh : Shape) (s : List ℕ) where
@@ -85,7 +91,7 @@ module _ (sh : Shape) (s : List ℕ) where
 
     changes_refused : ((a : Answer) (y : List ℕ) → C a y → number a ≢ 0 → y ≡ stripe sh s) → (d : Deed) (y : List ℕ) → Changes C x d y → Unchanged (Some sh) s d y
     changes_refused kept d y (a, p, i, u) n =
-        (ap (λ (d : Deed). d.held) u, inside_kept sh s y i (kept a _ p (λ e. n (ap (λ (d : Deed). d.answer) u ∙ e))))
+        (ap (λ (d : Deed). d.held) u, inside_kept sh s y i (kept a _ p (λ e. n (ap (λ (d : Deed). told_number d.told) u ∙ e))))
 
   -- a call that only looks, of the contract C, with this deed
   abbrev pub Looks : {A : Type 0} → (A → Type 0) → (A → Deed) → Deed → List ℕ → Type 0
@@ -100,11 +106,11 @@ module _ (sh : Shape) (s : List ℕ) where
 
 -- ---- what a kind does
 
-abbrev count_line : Shape → Checked → Deed
-count_line sh r = deed (Some sh) (number r.answer) r.broken r.bits
+abbrev count_line : Shape → Result Checked Refusal → Deed
+count_line sh r = deed (Some sh) (number r) (counts r).0 (counts r).1
 
-abbrev find_line : Shape → Located → Deed
-find_line sh r = deed (Some sh) (number r.answer) (found r.damage).0 (found r.damage).1
+abbrev find_line : Shape → Result Damage Refusal → Deed
+find_line sh r = deed (Some sh) (number r) (finding r).0 (finding r).1
 
 abbrev lost_count : List ℕ → Answer → ℕ
 lost_count p a = cond (eqb (number a) 0) (get_or p 0 0) 0
@@ -170,19 +176,19 @@ module _ (p s : List ℕ) (room : ℕ) where
   does_refused rebuilding None d x u a = absurd a
   does_refused rebuilding (Some sh) d x u a = changes_refused sh s (Mend sh u) (lost_count p) (λ a x o. o.outcome.refused) d x a
 
-  does_shown : (k : Kind) (h : Held) (d : Deed) (x u : List ℕ) → Does k h p s room d x u → d.shown ≡ true
-  does_shown shaping h d x u (k, f, inl a) = ap (λ (d : Deed). d.shown) a.1.is
-  does_shown shaping h d x u (k, f, inr a) = ap (λ (d : Deed). d.shown) a.1
+  does_shown : (k : Kind) (h : Held) (d : Deed) (x u : List ℕ) → Does k h p s room d x u → is_some d.told ≡ true
+  does_shown shaping h d x u (k, f, inl a) = ap (λ (d : Deed). is_some d.told) a.1.is
+  does_shown shaping h d x u (k, f, inr a) = ap (λ (d : Deed). is_some d.told) a.1
   does_shown writing None d x u a = absurd a
-  does_shown writing (Some sh) d x u a = ap (λ (d : Deed). d.shown) a.3
+  does_shown writing (Some sh) d x u a = ap (λ (d : Deed). is_some d.told) a.3
   does_shown storing None d x u a = absurd a
-  does_shown storing (Some sh) d x u a = ap (λ (d : Deed). d.shown) a.3
+  does_shown storing (Some sh) d x u a = ap (λ (d : Deed). is_some d.told) a.3
   does_shown checking None d x u a = absurd a
-  does_shown checking (Some sh) d x u a = ap (λ (d : Deed). d.shown) a.3
+  does_shown checking (Some sh) d x u a = ap (λ (d : Deed). is_some d.told) a.3
   does_shown locating None d x u a = absurd a
-  does_shown locating (Some sh) d x u a = ap (λ (d : Deed). d.shown) a.3
+  does_shown locating (Some sh) d x u a = ap (λ (d : Deed). is_some d.told) a.3
   does_shown rebuilding None d x u a = absurd a
-  does_shown rebuilding (Some sh) d x u a = ap (λ (d : Deed). d.shown) a.3
+  does_shown rebuilding (Some sh) d x u a = ap (λ (d : Deed). is_some d.told) a.3
 
   -- ---- a record that is no client's
 
@@ -208,6 +214,6 @@ module _ (p s : List ℕ) (room : ℕ) where
     tells_refused d x u (k, f, inr (i, (l, is, a))) n = does_refused l h d x u a n
 
     -- it gets a line
-    pub tells_shown : (d : Deed) (x u : List ℕ) → TellsOf kind h p s room d x u → d.shown ≡ true
-    tells_shown d x u (k, f, inl a) = ap (λ (d : Deed). d.shown) a.1
+    pub tells_shown : (d : Deed) (x u : List ℕ) → TellsOf kind h p s room d x u → is_some d.told ≡ true
+    tells_shown d x u (k, f, inl a) = ap (λ (d : Deed). is_some d.told) a.1
     tells_shown d x u (k, f, inr (i, (l, is, a))) = does_shown l h d x u a

@@ -9,17 +9,16 @@ use native.Mathlib.Omega.{arith}
 use native.Mathlib.Decide.{dec_lt, ℕ_discrete}
 use lib.ListN.{length, get_or}
 use Rattle.shape.specs.declared.Shape.{Shape}
-use Rattle.answer.specs.declared.Answer.TheVariants.{UnknownKind, BadPayload, NoShape}
+use Rattle.std.specs.Prelude.{None, Some, Err}
+use Rattle.answer.specs.declared.Refusal.TheVariants.{UnknownKind, BadPayload, NoShape}
 use Rattle.shape.specs.Good.{Good}
-use Rattle.answer.specs.Answers.{number, Table, First}
+use Rattle.answer.specs.Answers.{refusal_number, number, Table, First}
 use Rattle.shape.specs.Refusals.{shape_table}
 use Rattle.answer.proofs.AnswersLaws.{first_one, first_clear}
 use Rattle.shape.proofs.GoodLaws.{shape_done}
 use Rattle.answer.proofs.OutcomeLaws.{Ready, call_some, either?}
 use Rattle.shape.proofs.Ready.{shape_ready}
-use Rattle.kinds.specs.declared.Held.{Held}
-use Rattle.kinds.specs.declared.Held.TheVariants.{None, Some}
-use Rattle.kinds.specs.Kinds.{Shapeless, Kind, shaping, writing, storing, checking, locating, rebuilding, kind_number, Unknown, Early, Wrong, Of, job_table}
+use Rattle.kinds.specs.Kinds.{Held, Shapeless, Kind, shaping, writing, storing, checking, locating, rebuilding, kind_number, Unknown, Early, Wrong, Of, job_table}
 
 -- ---- the kind of a number
 
@@ -124,12 +123,12 @@ of? kind P p? = at (kind? kind)
         by (no p) = no (λ o. p (of_kind kind P o k e))
 
 pub job_ready : (h : Held) (kind : ℕ) (p : List ℕ) → Ready (job_table h kind p)
-unfolding job_table number
+unfolding job_table number refusal_number
 job_ready h kind p = (
-  UnknownKind,
+  (Err UnknownKind),
   refl,
   unknown? kind,
-  λ a. (NoShape, refl, of? kind (λ k. Early k h) (early? h), λ b. (BadPayload, refl, of? kind (λ k. Wrong k p) (wrong? p), λ c. tt)),
+  λ a. ((Err NoShape), refl, of? kind (λ k. Early k h) (early? h), λ b. ((Err BadPayload), refl, of? kind (λ k. Wrong k p) (wrong? p), λ c. tt)),
 )
 
 -- each of them, where those before it do not apply, whatever those behind it say

@@ -1,10 +1,8 @@
 -- THE SHAPE HELD: the accepted one, and the part of the buffer that is its stripe. Definitions only.
-use Rattle.std.specs.Prelude.{◌≡◌, ◌⊎◌, ℕ, ◌≤◌}
+use Rattle.std.specs.Prelude.{◌≡◌, ◌⊎◌, ℕ, ◌≤◌, None, Some}
 use Rattle.shape.specs.declared.Shape.{Shape}
 use Rattle.shape.specs.Good.{Good, size}
-use Rattle.kinds.specs.declared.Held.{Held}
-use Rattle.kinds.specs.declared.Held.TheVariants.{None, Some}
-use Rattle.kinds.specs.Kinds.{Shapeless}
+use Rattle.kinds.specs.Kinds.{Held, Shapeless}
 
 -- what is held, the accepted shape looked for: there is none, or it is this one
 abbrev pub Accepted : Held → Held → Type 0

@@ -1,23 +1,26 @@
 -- WHAT A RECORD OF EACH KIND DOES (document 01, "The job program"), by the contracts of the calls: h is the shape held, p the payload, s the buffer whose
 -- first m·n·w bytes are the stripe, `room` the length of the workspace; d is what the record comes to, s' and work' the buffers as left. Definitions only.
-use Rattle.std.specs.Prelude.{◌≡◌, ◌≢◌, ◌⊎◌, true, false, cond, List, [], ◌∷◌, ℕ, ◌+◌, ◌<◌, eqb, length, get_or, take, drop}
+use Rattle.std.specs.Prelude.{◌≡◌, ◌≢◌, ◌⊎◌, cond, List, [], ◌∷◌, ℕ, ◌+◌, ◌<◌, eqb, length, get_or, take, drop, Option, None, Some, Result, Ok, Err}
 use Rattle.shape.specs.declared.Shape.{Shape}
-use Rattle.answer.specs.declared.Answer.{Answer}
+use Rattle.answer.specs.Answers.{Answer, refusal_number, number, Table, First}
 use Rattle.shape.specs.Good.{Good, size, shape}
-use Rattle.answer.specs.Answers.{number, Table, First}
+use Rattle.answer.specs.declared.Refusal.{Refusal}
 use Rattle.shape.specs.Refusals.{shape_table}
 use Rattle.rule.specs.Losses.{named}
 use Rattle.checking.specs.declared.Checked.{Checked}
-use Rattle.checking.specs.Check.{Check}
-use Rattle.locating.specs.declared.Located.{Located}
-use Rattle.locating.specs.Locate.{Locate, found}
+use Rattle.checking.specs.Check.{Check, counts}
+use Rattle.locating.specs.declared.Damage.{Damage}
+use Rattle.locating.specs.Locate.{Locate, finding}
 use Rattle.writing.specs.Write.{SmallWrite}
 use Rattle.storing.specs.Store.{RawStore}
 use Rattle.rebuild.specs.Rebuild.{Rebuild}
 use Rattle.records.specs.Record.{two_bytes}
-use Rattle.kinds.specs.declared.Held.{Held}
-use Rattle.kinds.specs.declared.Held.TheVariants.{None, Some}
+use Rattle.kinds.specs.declared.Numbers.{Numbers}
 use Rattle.kinds.specs.declared.Deed.{Deed}
+
+-- the shape that was accepted last, if there was one
+abbrev pub Held : Type 0
+Held = Option Shape
 
 -- there is no accepted shape
 abbrev pub Shapeless : Held → Type 0
@@ -75,7 +78,17 @@ job_table h kind p =
 
 -- a line with its answer, x and y; the shape held after it is h
 abbrev pub deed : Held → ℕ → ℕ → ℕ → Deed
-deed h a x y = record { held = h; shown = true; answer = a; x = x; y = y }
+deed h a x y = record { held = h; told = Some (record { answer = a; x = x; y = y }) }
+
+-- of a record that is answered with x and y, or refused; a refusal has neither
+abbrev pub deed_of : Held → Result Numbers Refusal → Deed
+deed_of h (Ok numbers) = deed h 0 numbers.x numbers.y
+deed_of h (Err refusal) = deed h (refusal_number refusal) 0 0
+
+-- of a shape that is taken, and then held, or refused
+abbrev pub begun_of : Held → Result Shape Refusal → Deed
+begun_of h (Ok sh) = deed (Some sh) 0 (size sh) 0
+begun_of h (Err refusal) = deed h (refusal_number refusal) 0 0
 
 -- the stripe of a shape in that buffer; what a record does to it leaves the rest
 abbrev pub stripe : Shape → List ℕ → List ℕ
@@ -106,11 +119,11 @@ Stores Call sh p s d s' =
 
 -- "4 check": "x broken chains, and y counts the differing bits"
 abbrev pub Checks : Shape → List ℕ → Deed → List ℕ → Type 0
-Checks sh s d s' = (r : Checked) × Check sh (stripe sh s) r × (s' ≡ s) × (d ≡ deed (Some sh) (number r.answer) r.broken r.bits)
+Checks sh s d s' = (r : Result Checked Refusal) × Check sh (stripe sh s) r × (s' ≡ s) × (d ≡ deed (Some sh) (number r) (counts r).0 (counts r).1)
 
 -- "5 locate": "x 0 sound, 1 one column, 2 more, and y the column or 0"
 abbrev pub Locates : Shape → List ℕ → Deed → List ℕ → Type 0
-Locates sh s d s' = (r : Located) × Locate sh (stripe sh s) r × (s' ≡ s) × (d ≡ deed (Some sh) (number r.answer) (found r.damage).0 (found r.damage).1)
+Locates sh s d s' = (r : Result Damage Refusal) × Locate sh (stripe sh s) r × (s' ≡ s) × (d ≡ deed (Some sh) (number r) (finding r).0 (finding r).1)
 
 -- "6 rebuild (a count 0 to 2, then that many columns)": "x columns lost"
 abbrev pub Rebuilds : Shape → List ℕ → List ℕ → ℕ → Deed → List ℕ → List ℕ → Type 0
@@ -139,4 +152,4 @@ TellsOf kind h p s room d s' work' =
 
 -- "Kinds 32,768 and above belong to clients and are skipped without a line."
 abbrev pub skipped : Held → Deed
-skipped h = record { held = h; shown = false; answer = 0; x = 0; y = 0 }
+skipped h = record { held = h; told = None }

@@ -2,31 +2,20 @@
 ghost use Rattle.shape.specs.Good.{Good};
 ghost use Rattle.kinds.specs.Holding.{Accepted, Front};
 
-use crate::Held;
-use answer::Answer;
 use shape::Shape;
 
 // The shape held, if it is a good one.
-pub fn accepted(held: Held) -> Held
+pub fn accepted(held: Option<Shape>) -> Option<Shape>
     ensures { Accepted held result }
 {
-    match held {
-        Held::None => Held::None,
-        Held::Some(shape) => match shape.refusal() {
-            Answer::Done => Held::Some(shape),
-            _ => Held::None,
-        },
-    }
+    held.filter(|shape| shape.accept().is_ok())
 }
 
-// How many bytes of a buffer of `room` bytes are the stripe of a shape, which whoever calls it knows to be good; all of them where the buffer is too short.
+// How many bytes of a buffer of `room` bytes are the stripe of a shape, which whoever calls it knows to be good; all
+// of them where the buffer is too short.
 pub fn front(shape: Shape, room: usize) -> usize
     requires { Good shape }
     ensures { Front shape room result }
 {
-    let size = shape.stripe_length();
-    if size < room {
-        return size;
-    }
-    room
+    shape.stripe_length().min(room)
 }

@@ -1,4 +1,5 @@
-// What a record of each kind does to the shape held and to its stripe; and what all kinds go by: the shape, its part of the buffer, and the line told.
+// What a record of each kind does to the shape held and to its stripe; and what all kinds go by: the shape, its part
+// of the buffer, and the line told.
 #![tactic(auto)]
 
 mod holding;
@@ -6,21 +7,26 @@ mod telling;
 
 pub use holding::{accepted, front};
 use shape::Shape;
-pub use telling::{skip, told};
+pub use telling::{skip, tell};
 
-// The shape that was accepted last, if there was one.
+// What an answered record gives for x and y.
 #[derive(Clone, Copy)]
-pub enum Held {
-    None,
-    Some(Shape),
+pub struct Numbers {
+    pub x: usize,
+    pub y: usize,
 }
 
-// What a record comes to: the shape held after it, whether it gets a line, and that line's answer, x and y.
+// What a line tells: its answer, x and y.
 #[derive(Clone, Copy)]
-pub struct Deed {
-    pub held: Held,
-    pub shown: bool,
+pub struct Told {
     pub answer: usize,
     pub x: usize,
     pub y: usize,
+}
+
+// What a record comes to: the shape held after it, and what its line tells, if it gets one.
+#[derive(Clone, Copy)]
+pub struct Deed {
+    pub held: Option<Shape>,
+    pub told: Option<Told>,
 }

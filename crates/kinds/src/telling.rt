@@ -1,33 +1,32 @@
 // What a record comes to.
 ghost use Rattle.std.specs.Prelude.{◌≡◌};
-ghost use Rattle.answer.specs.Answers.{number};
-ghost use Rattle.kinds.specs.Kinds.{deed, skipped};
+ghost use Rattle.kinds.specs.Kinds.{deed_of, skipped};
 
-use crate::{Deed, Held};
-use answer::Answer;
+use crate::{Deed, Numbers, Told};
+use answer::Refusal;
+use shape::Shape;
 
-// A line with its answer, x and y; the shape held after it is `held`.
-pub fn told(held: Held, answer: Answer, x: usize, y: usize) -> Deed
-    ensures { result ≡ deed held (number answer) x y }
+// The line of an answered or refused record, a refused one with x and y 0; the shape held after it is `held`.
+pub fn tell(held: Option<Shape>, outcome: Result<Numbers, Refusal>) -> Deed
+    ensures { result ≡ deed_of held outcome }
 {
+    let told = match outcome {
+        Ok(Numbers { x, y }) => Told { answer: 0, x, y },
+        Err(refusal) => Told {
+            answer: refusal.number(),
+            x: 0,
+            y: 0,
+        },
+    };
     Deed {
-        held: held,
-        shown: true,
-        answer: answer.number(),
-        x: x,
-        y: y,
+        held,
+        told: Some(told),
     }
 }
 
 // A client's record: no line.
-pub fn skip(held: Held) -> Deed
+pub fn skip(held: Option<Shape>) -> Deed
     ensures { result ≡ skipped held }
 {
-    Deed {
-        held: held,
-        shown: false,
-        answer: 0,
-        x: 0,
-        y: 0,
-    }
+    Deed { held, told: None }
 }

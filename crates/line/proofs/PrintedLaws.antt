@@ -1,17 +1,17 @@
 -- Laws of a line's text. To cite: digits_are, the digits that the kit writes are `digits`; digits_few, a number of 64 bits has at most 20;
 -- put_from, a field that was put; front_none and front_more for a line that grows by a field.
-use mathlib.Core.Path.{◌≡◌, refl, sym, ap, ◌∙◌, subst}
-use mathlib.Core.Logic.{inl, inr}
+use mathlib.Core.Path.{◌≡◌, refl, sym, ap, ap₂, ◌∙◌}
 use mathlib.Core.List.{List, [], ◌∷◌, ◌++◌}
 use Prim.Native.Nat.{ℕ, zero, suc, ◌+◌, ◌-◌, ◌/◌, ◌%◌, ◌^◌, ◌≤◌, ◌<◌}
 use native.Mathlib.Nat.{pow-zero, pow-suc, pow-le-pow_right, mod-eq_of_lt, lt_of_not-le}
 use native.Mathlib.Decide.{dec_le}
 use native.Mathlib.Omega.{arith}
 use borrow.Author.Tests.{lt-ltb, le-ltb}
-use lib.ListN.{length, get_or, take, drop, set, length-append, length-drop, get_or-append}
-use lib.Seq.{length-take-le, get_or-append_seam, get_or-append-add, get_or-take, get_or-drop, ext_get_or, take_at, drop-append-add, drop-drop}
-use Rattle.xor.specs.Spanned.{Spanned}
-use Rattle.xor.proofs.Span.{span_same, span_more}
+use lib.ListN.{length, take, drop, set, length-append, length-drop}
+use lib.Seq.{length-take-le, take_at, drop-append-add, drop-drop}
+use borrow.Rule.Slice.PartMut.{put_mid}
+use Rattle.std.proofs.lemmas.Slice.{take-put_mid, drop-put_mid}
+use Rattle.std.proofs.lemmas.List.{set_split, append_assoc}
 use Rattle.io.specs.Digits.{IsDigitCount, last_digits as kit_digits}
 use Rattle.line.specs.Printed.{digits_within, digits, field}
 use Rattle.line.specs.Printing.{Put}
@@ -66,63 +66,27 @@ digits_few n (suc (suc k)) l f = few (dec_le (suc (suc k)) 20) where
 
 -- ---- a field in the buffer
 
--- a span of the bytes of f, as one list
-span_list : (f s s' : List ℕ) (at : ℕ) → Spanned (λ t. get_or f t 0) s s' at (length f) → at + length f ≤ length s → s' ≡ take at s ++ f ++ drop (at + length f) s
-span_list f s s' at u fit = ext_get_or 0 s' (take at s ++ f ++ drop (at + length f) s) (omega (arith, u.long, long, behind, length-drop (at + length f) s)) (λ i l. here i (dec_le at i) (dec_le (at + length f) i)) where
-  ahead : length (take at s) ≡ at
-  ahead = length-take-le at s (omega arith)
-
-  behind : length (take at s ++ f ++ drop (at + length f) s) ≡ length (take at s ++ f) + length (drop (at + length f) s)
-  behind = length-append (take at s ++ f) (drop (at + length f) s)
-
-  long : length (take at s ++ f) ≡ at + length f
-  long = omega (arith, ahead, length-append (take at s) f)
-
-  here : (i : ℕ) → Dec (at ≤ i) → Dec (at + length f ≤ i) → get_or s' i 0 ≡ get_or (take at s ++ f ++ drop (at + length f) s) i 0
-  here i (no a) b =
-      u.rest i (inl (lt_of_not-le a))
-      ∙ sym (get_or-append (take at s ++ f) (drop (at + length f) s) 0 i (omega (arith, lt_of_not-le a, long)) ∙ get_or-append (take at s) f 0 i (omega (arith, lt_of_not-le a, ahead)) ∙ get_or-take at s i 0 (lt_of_not-le a))
-  here i (yes a) (no b) =
-      let k = i - at in
-      let e : i ≡ at + k = omega arith in
-      let g : i ≡ length (take at s) + k = omega (arith, ahead) in
-      ap (λ (j : ℕ). get_or s' j 0) e ∙ u.at k (omega (arith, lt_of_not-le b))
-      ∙ sym (get_or-append (take at s ++ f) (drop (at + length f) s) 0 i (omega (arith, lt_of_not-le b, long)) ∙ ap (λ (j : ℕ). get_or (take at s ++ f) j 0) g ∙ get_or-append-add (take at s) f k 0)
-  here i (yes a) (yes b) =
-      let k = i - (at + length f) in
-      let e : i ≡ at + length f + k = omega arith in
-      let g : i ≡ length (take at s ++ f) + k = omega (arith, long) in
-      u.rest i (inr b) ∙ ap (λ (j : ℕ). get_or s j 0) e ∙ sym (get_or-drop (at + length f) s k 0)
-      ∙ sym (ap (λ (j : ℕ). get_or (take at s ++ f ++ drop (at + length f) s) j 0) g ∙ get_or-append-add (take at s ++ f) (drop (at + length f) s) k 0)
-
 -- the digits copied, then the byte after them stored
-pub put_from : (n mark count : ℕ) (ys s s₁ : List ℕ) (at : ℕ) → count ≡ length ys → ys ≡ digits n → count ≤ 20 → at + 21 ≤ length s → Spanned (λ t. get_or ys t 0) s s₁ at (length ys)
-    → Put (field n mark) s at (at + count + 1) (set s₁ (at + count) mark)
+pub put_from : (n mark count : ℕ) (ys s : List ℕ) (at k : ℕ) → count ≡ length ys → ys ≡ digits n → count ≤ 20 → at + 21 ≤ length s → k ≡ count
+    → Put (field n mark) s at (at + count + 1) (set (put_mid at k s ys) (at + count) mark)
 unfolding field
-put_from n mark count ys s s₁ at q e few fit u = subst (λ (zs : List ℕ). Put (zs ++ (mark ∷ [])) s at (at + count + 1) s₂) e made where
-  f : List ℕ
-  f = ys ++ (mark ∷ [])
-
-  s₂ : List ℕ
-  s₂ = set s₁ (at + count) mark
-
-  long : length f ≡ count + 1
-  long = omega (arith, length-append ys (mark ∷ []))
-
-  v : Spanned (λ t. get_or ys t 0) s s₁ at count
-  v = rw q u
-
-  spanned : Spanned (λ t. get_or f t 0) s s₂ at (length f)
-  spanned =
-      rw long
-      (span_more (span_same (λ t. get_or f t 0) v refl (λ t l. sym (get_or-append ys (mark ∷ []) 0 t (omega arith)))) mark (rw q (sym (get_or-append_seam ys mark [] 0))) (omega (arith, u.long)))
-
-  made : Put f s at (at + count + 1) s₂
-  made = record {
-    next = omega (arith, long);
-    most = omega (arith, long);
-    left = let e : at + length f ≡ at + count + 1 = omega (arith, long) in rw e at (span_list f s s₂ at spanned (omega (arith, long)));
-  }
+put_from n mark count ys s at k q e few fit ek =
+    let l = put_mid at k s ys in
+    let end = at + count in
+    let last : List ℕ = mark ∷ [] in
+    let back = drop (suc end) s in
+    let rest = drop k (drop at s) in
+    let long : length l ≡ length s = omega (arith, length-append (take at s) (ys ++ rest), length-append ys rest, length-take-le at s (omega arith), length-drop k (drop at s), length-drop at s, q, ek) in
+    let before : take end l ≡ take at s ++ ys = take-put_mid at k s ys end (omega (arith, q)) (omega arith) in
+    let after : drop (suc end) l ≡ back = drop-put_mid at k s ys (suc end) (omega (arith, ek)) (omega arith) (omega (arith, q, ek)) in
+    let many : length (digits n ++ last) ≡ count + 1 = rw (sym e) (omega (arith, q, length-append ys last)) in
+    let one : suc end ≡ end + 1 = omega arith in
+    record {
+      next = omega (arith, many);
+      most = omega (arith, many);
+      left = set_split l end mark (omega (arith, long)) ∙ ap₂ (λ (xs zs : List ℕ). xs ++ (mark ∷ zs)) before after ∙ sym (append_assoc (take at s ++ ys) last back)
+          ∙ ap (λ (xs : List ℕ). xs ++ back) (append_assoc (take at s) ys last) ∙ ap₂ (λ (xs : List ℕ) (j : ℕ). take at s ++ (xs ++ last) ++ drop j s) e one;
+    }
 
 -- ---- a line that grows
 

@@ -25,8 +25,8 @@ fn put(number: usize, mark: u8, out: &mut [u8], at: usize) -> usize
 {
     let mut digits = [0u8; 20];
     let count = io::decimal(number as u64, &mut digits);
-    xor::copy(&digits[..count], out, at);
     let end = at + count;
+    out[at..end].copy_from_slice(&digits[..count]);
     out[end] = mark;
     end + 1
 }

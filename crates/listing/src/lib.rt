@@ -1,4 +1,5 @@
-// Where the symbols of a chain start, in a list. The list of every chain is one table moved: what does not wrap lies the same, the rest a stripe's length off.
+// Where the symbols of a chain start, in a list. The list of every chain is one table moved: what does not wrap lies
+// the same, the rest a stripe's length off.
 #![tactic(auto)]
 
 ghost use Rattle.std.specs.Prelude.{◌≡◌, ◌+◌, ◌<◌, ◌≤◌, length};
@@ -7,16 +8,15 @@ ghost use Rattle.listing.specs.Places.{Listed, Laid, Table, Moved, Straight, Fur
 
 use shape::Shape;
 
-// Notes in the list where the two symbols of each height of chain p start; whoever calls it has a chain of a good shape that does not wrap.
+// Notes in the list where the two symbols of each height of chain p start; whoever calls it has a chain of a good
+// shape that does not wrap.
 fn note(list: &mut [u16; 32], sh: Shape, p: usize)
     requires { (Good sh) × (sh.m ≤ p + 1) × (p + sh.m ≤ sh.n) × (length list.old ≡ 32) }
     ensures { Listed sh p sh.m list.new }
 {
-    let mut d = 1;
-    while d < sh.m {
+    for d in 1..sh.m {
         list[2 * d - 2] = sh.place(d, p - d) as u16;
         list[2 * d - 1] = sh.place(d, p + d) as u16;
-        d += 1;
     }
 }
 
@@ -32,21 +32,20 @@ pub fn table(sh: Shape) -> [u16; 32]
     list
 }
 
-// Every entry of the list further by the same number, modulo 65,536.
+// Every entry of the list further by the same number, modulo 65,536. (Not `map`, which costs more.)
 fn moved(list: &[u16; 32], by: u16) -> [u16; 32]
     requires { length list.now ≡ 32 }
     ensures { Moved list.now by result }
 {
-    let mut to = [0u16; 32];
-    let mut i = 0;
-    while i < 32 {
-        to[i] = std::num::wrapping_add_u16(list[i], by);
-        i += 1;
+    let mut to = [0; 32];
+    for (i, place) in list.iter().enumerate() {
+        to[i] = place.wrapping_add(by);
     }
     to
 }
 
-// The list of chain p, but for what wraps, which lies a whole stripe off; whoever calls it has a chain of a good shape and that shape's table.
+// The list of chain p, but for what wraps, which lies a whole stripe off; whoever calls it has a chain of a good
+// shape and that shape's table.
 pub fn shifted(list: &[u16; 32], sh: Shape, p: usize) -> [u16; 32]
     requires { (Good sh) × (p < sh.n) × (Table sh list.now) }
     ensures { Straight sh p result }
@@ -54,7 +53,7 @@ pub fn shifted(list: &[u16; 32], sh: Shape, p: usize) -> [u16; 32]
     let column = sh.column_length();
     let here = (p * column) as u16;
     let there = ((sh.m - 1) * column) as u16;
-    moved(list, std::num::wrapping_sub_u16(here, there))
+    moved(list, here.wrapping_sub(there))
 }
 
 // Moves every second entry from start on, below end, by the same number, modulo 65,536.
@@ -62,14 +61,13 @@ fn further(list: &mut [u16; 32], start: usize, end: usize, by: u16)
     requires { (length list.old ≡ 32) × (start ≤ end) × (end ≤ 32) }
     ensures { Further list.old start end by list.new }
 {
-    let mut i = start;
-    while i < end {
-        list[i] = std::num::wrapping_add_u16(list[i], by);
-        i += 2;
+    for i in (start..end).step_by(2) {
+        list[i] = list[i].wrapping_add(by);
     }
 }
 
-// Makes the list of chain p from one in which what wraps lies a whole stripe off; whoever calls it has a chain of a good shape.
+// Makes the list of chain p from one in which what wraps lies a whole stripe off; whoever calls it has a chain of a
+// good shape.
 pub fn wrap(list: &mut [u16; 32], sh: Shape, p: usize)
     requires { (Good sh) × (p < sh.n) × (Straight sh p list.old) }
     ensures { Laid sh p list.new }
@@ -78,10 +76,8 @@ pub fn wrap(list: &mut [u16; 32], sh: Shape, p: usize)
     let n = sh.n;
     if p + 1 < m {
         further(list, 2 * p, 2 * m - 2, (sh.stripe_length() % 65536) as u16);
-    } else {
-        if n < p + m {
-            let back = std::num::wrapping_sub_u16(0, (sh.stripe_length() % 65536) as u16);
-            further(list, 2 * (n - p) - 1, 2 * m - 2, back);
-        }
+    } else if n < p + m {
+        let back = 0u16.wrapping_sub((sh.stripe_length() % 65536) as u16);
+        further(list, 2 * (n - p) - 1, 2 * m - 2, back);
     }
 }

@@ -5,11 +5,16 @@ use mathlib.Core.List.{List}
 use Prim.Native.Nat.{ℕ, zero, suc, ◌<◌}
 use native.Mathlib.Omega.{arith}
 use lib.ListN.{length}
+use Rattle.std.specs.Prelude.{Result, Ok, Err}
 use Rattle.shape.specs.declared.Shape.{Shape}
 use Rattle.shape.specs.Good.{Good, size}
 use Rattle.shape.specs.Refusals.{stripe_table}
 use Rattle.shape.proofs.GoodLaws.{stripe_done}
-use Rattle.answer.proofs.OutcomeLaws.{call_one, call_some}
+use Rattle.answer.specs.declared.Refusal.{Refusal}
+use Rattle.answer.specs.Answers.{Answer, number}
+use Rattle.answer.specs.Outcome.{Outcome}
+use Rattle.answer.proofs.AnswersLaws.{number_apart, refused}
+use Rattle.answer.proofs.OutcomeLaws.{outcome_one, call_some}
 use Rattle.shape.proofs.Ready.{stripe_ready}
 use Rattle.rule.specs.declared.Losses.TheVariants.{One}
 use Rattle.rule.specs.Rule.{Obeys}
@@ -19,23 +24,22 @@ use Rattle.rule.proofs.RuleLaws.{obeys?}
 use Rattle.rule.proofs.SolvesLaws.{solves?, mended_one}
 use Rattle.locating.specs.declared.Damage.{Damage}
 use Rattle.locating.specs.declared.Damage.TheVariants.{Sound, Column, Several}
-use Rattle.locating.specs.declared.Located.{Located}
-use Rattle.locating.specs.Locate.{found, Mends, Names, Locate}
+use Rattle.locating.specs.Locate.{found, finding, Mends, Names, Locate}
 
 -- the two numbers tell findings apart
-finding : ℕ → ℕ → Damage
-finding zero c = Sound
-finding (suc zero) c = Column c
-finding (suc (suc k)) c = Several
+told : ℕ → ℕ → Damage
+told zero c = Sound
+told (suc zero) c = Column c
+told (suc (suc k)) c = Several
 
-finding_found : (f : Damage) → finding (found f).0 (found f).1 ≡ f
-unfolding found finding
-finding_found Sound = refl
-finding_found (Column c) = refl
-finding_found Several = refl
+told_found : (f : Damage) → told (found f).0 (found f).1 ≡ f
+unfolding found told
+told_found Sound = refl
+told_found (Column c) = refl
+told_found Several = refl
 
 found_apart : (f g : Damage) → found f ≡ found g → f ≡ g
-found_apart f g e = sym (finding_found f) ∙ ap (λ (x : ℕ × ℕ). finding x.0 x.1) e ∙ finding_found g
+found_apart f g e = sym (told_found f) ∙ ap (λ (x : ℕ × ℕ). told x.0 x.1) e ∙ told_found g
 
 module _ (sh : Shape) (s : List ℕ) (good : Good sh) (len : length s ≡ size sh) where
   pub mends_one : ¬ Obeys sh s → (c e : ℕ) → Mends sh s c → Mends sh s e → c ≡ e
@@ -61,15 +65,27 @@ module _ (sh : Shape) (s : List ℕ) (good : Good sh) (len : length s ≡ size s
       at (no p) (yes q) = (Column q.0, inr (inl (refl, p, (q.1, q.2.0, q.2.1))))
       at (no p) (no q) = (Several, inr (inr (refl, p, λ c z. q (c, z.0, (z.1, z.2)))))
 
-pub locate_one : (sh : Shape) (s : List ℕ) (a b : Located) → Locate sh s a → Locate sh s b → a ≡ b
-locate_one sh s a b p q =
-    let (e, f) = call_one (λ h x y u v. let (good, len) = (stripe_done sh s).1 h in names_one sh s good len x y u v)
-    a.answer b.answer (found a.damage) (found b.damage) p q in
-    let g = found_apart a.damage b.damage f in λ i. record { answer = e i; damage = g i }
+-- two reports with the same numbers are the same
+report_apart : (a b : Result Damage Refusal) → number a ≡ number b → finding a ≡ finding b → a ≡ b
+unfolding number
+report_apart (Ok x) (Ok y) e f = ap Ok (found_apart x y f)
+report_apart (Ok x) (Err r) e f = absurd (refused {A = Damage} {x = Err r} refl (sym e))
+report_apart (Err q) (Ok y) e f = absurd (refused {A = Damage} {x = Err q} refl e)
+report_apart (Err q) (Err r) e f =
+    let h : ◌≡◌ {A = Answer} (Err q) (Err r) = number_apart (Err q) (Err r) e in
+    let k : q ≡ r = cc in ap Err k
 
-pub locate_some : (sh : Shape) (s : List ℕ) → (r : Located) × Locate sh s r
-unfolding found
+pub locate_one : (sh : Shape) (s : List ℕ) (a b : Result Damage Refusal) → Locate sh s a → Locate sh s b → a ≡ b
+locate_one sh s a b p q =
+    let (e, f) = outcome_one (λ h x y u v. let (good, len) = (stripe_done sh s).1 h in names_one sh s good len x y u v)
+    (number a) (number b) (finding a) (finding b) p q in report_apart a b e f
+
+pub locate_some : (sh : Shape) (s : List ℕ) → (r : Result Damage Refusal) × Locate sh s r
+unfolding number
 locate_some sh s =
     let (a, f, h) = call_some {T = stripe_table sh s} Sound (λ (f : Damage). Names sh s (found f)) (stripe_ready sh s)
-    (λ h. let (good, len) = (stripe_done sh s).1 h in names_some sh s good len) in
-    (record { answer = a; damage = f }, record { answer = h.answer; refused = λ n. ap found (h.refused n); done = h.done })
+    (λ h. let (good, len) = (stripe_done sh s).1 h in names_some sh s good len) in at a f h
+  where
+    at : (a : Answer) (f : Damage) → Outcome (stripe_table sh s) Sound (λ (f : Damage). Names sh s (found f)) (number a) f → (r : Result Damage Refusal) × Locate sh s r
+    at (Ok u) f h = (Ok f, record { answer = h.answer; refused = λ ne. absurd (ne refl); done = h.done })
+    at (Err r) f h = (Err r, record { answer = h.answer; refused = λ ne. refl; done = λ z. absurd (refused {A = Damage} {x = Err r} refl z) })

@@ -2,74 +2,75 @@
 // Each chain is counted once; bytes are compared only of two chains that differ by as many bits, and by some.
 #![tactic(auto)]
 
-ghost use Rattle.std.specs.Prelude.{◌+◌, ◌≤◌, ◌<◌, ◌≡◌};
+ghost use Rattle.std.specs.Prelude.{◌+◌, ◌≤◌, ◌<◌, ◌≡◌, length};
 ghost use Rattle.xor.specs.Tells.{Tells};
-ghost use Rattle.shape.specs.Good.{Good};
+ghost use Rattle.shape.specs.Good.{Good, size};
 ghost use Rattle.shape.specs.Step.{left, right};
-ghost use Rattle.walking.specs.Walk.{Walks};
 ghost use Rattle.chain.specs.Chain.{Part};
 ghost use Rattle.checking.specs.Bits.{Bits};
 ghost use Rattle.locating.specs.Locate.{Locate, found};
 ghost use Rattle.locating.specs.Locating.{Sized, Compares, Alike, Apart, Unbroken, Within, Searched};
 
-use answer::Answer;
+use answer::Refusal;
+use block::LONGEST;
 use chain::difference;
 use checking::bits_by_chain;
 use shape::Shape;
 use walking::{Walk, along};
 
 // What locate finds.
-#[derive(Clone, Copy)]
+#[derive(Clone, Copy, Debug, PartialEq, Eq)]
 pub enum Damage {
     Sound,
     Column(usize),
     Several,
 }
 
-#[derive(Clone, Copy)]
-pub struct Located {
-    pub answer: Answer,
-    pub damage: Damage,
+impl Damage {
+    // The finding in numbers: 0 sound, 1 one column, 2 more; and the column or 0.
+    #[tactic(auto, unfolding(crate::specs::Locate::found))]
+    pub fn numbers(self) -> (usize, usize)
+        ensures { result ≡ found self }
+    {
+        match self {
+            Damage::Sound => (0, 0),
+            Damage::Column(column) => (1, column),
+            Damage::Several => (2, 0),
+        }
+    }
 }
 
-// Says no in `same` if len bytes from `from` on of the chains that wk and other walk differ unlike, and gives len.
-fn level(
-    same: &mut bool,
-    shape: Shape,
-    s: &[u8],
-    wk: Walk,
-    other: Walk,
-    from: usize,
-    len: usize,
-) -> usize
-    requires { (Part shape s.now from len) × (Walks shape wk.p wk) × (Walks shape other.p other) }
-    ensures { (result ≡ len) × (Compares shape s.now wk.p other.p from (from + result) same.old same.new) }
+// Says no in `same` if LEN bytes from `from` on of the chains that wk and other walk differ unlike, and gives LEN.
+fn level<const LEN: usize>(same: &mut bool, s: &[u8], wk: Walk, other: Walk, from: usize) -> usize
+    requires part { Part wk.shape s.now from LEN }
+    requires one_shape { other.shape ≡ wk.shape }
+    ensures { (result ≡ LEN) × (Compares wk.shape s.now wk.p other.p from (from + result) same.old same.new) }
 {
-    let mut acc = difference(shape, s, wk, from, len);
-    let second = difference(shape, s, other, from, len);
-    block::join(&mut acc, &second, len);
-    if !looking::none(&acc, len) {
+    let mut acc: [u8; LEN] = difference(s, wk, from);
+    let second = difference(s, other, from);
+    block::join(&mut acc, &second);
+    if !looking::none(&acc) {
         *same = false;
     }
-    len
+    LEN
 }
 
 // Compares the next bytes of those chains, as many as the longest length that fits, and gives that length.
-fn level_some(same: &mut bool, shape: Shape, s: &[u8], wk: Walk, other: Walk, from: usize) -> usize
-    requires { (Sized shape s.now) × (Walks shape wk.p wk) × (Walks shape other.p other) × (from < shape.w) }
-    ensures { (1 ≤ result) × (from + result ≤ shape.w) × (Compares shape s.now wk.p other.p from (from + result) same.old same.new) }
+fn level_some(same: &mut bool, s: &[u8], wk: Walk, other: Walk, from: usize) -> usize
+    requires sized { length s.now ≡ size wk.shape }
+    requires one_shape { other.shape ≡ wk.shape }
+    requires inside { from < wk.shape.w }
+    ensures { (1 ≤ result) × (from + result ≤ wk.shape.w) × (Compares wk.shape s.now wk.p other.p from (from + result) same.old same.new) }
 {
-    let left = shape.w - from;
-    if left >= 128 {
-        return level(same, shape, s, wk, other, from, 128);
+    let left = wk.shape.w - from;
+    if LONGEST <= left {
+        return level::<LONGEST>(same, s, wk, other, from);
     }
-    if left >= 64 {
-        return level(same, shape, s, wk, other, from, 64);
+    match left {
+        ..16 => level::<1>(same, s, wk, other, from),
+        16..64 => level::<16>(same, s, wk, other, from),
+        _ => level::<64>(same, s, wk, other, from),
     }
-    if left >= 16 {
-        return level(same, shape, s, wk, other, from, 16);
-    }
-    level(same, shape, s, wk, other, from, 1)
 }
 
 // Whether chains p and q differ by the same bytes.
@@ -77,13 +78,13 @@ fn alike(shape: Shape, s: &[u8], p: usize, q: usize) -> bool
     requires { (Sized shape s.now) × (p < shape.n) × (q < shape.n) }
     ensures { Tells (Alike shape s.now p q) result }
 {
-    let w = shape.w;
     let wk = along(shape, p);
     let other = along(shape, q);
     let mut same = true;
     let mut from = 0;
-    while from < w {
-        from += level_some(&mut same, shape, s, wk, other, from);
+    // Not a `for`: each turn goes on by as many bytes as it compared.
+    while from < shape.w {
+        from += level_some(&mut same, s, wk, other, from);
     }
     same
 }
@@ -93,15 +94,7 @@ fn unbroken(shape: Shape, bits: &[u16; 64]) -> bool
     requires { Good shape }
     ensures { Tells (Unbroken shape bits.now) result }
 {
-    let n = shape.n;
-    let mut p = 0;
-    while p < n {
-        if bits[p] != 0 {
-            return false;
-        }
-        p += 1;
-    }
-    true
+    bits[..shape.n].iter().all(|&differing| differing == 0)
 }
 
 // Whether chain p is m columns or more from column c, either way round.
@@ -126,15 +119,10 @@ fn within(shape: Shape, bits: &[u16; 64], c: usize) -> bool
     requires { (Good shape) × (c < shape.n) }
     ensures { Tells (Within shape bits.now c) result }
 {
-    let n = shape.n;
-    let mut p = 0;
-    while p < n {
-        if bits[p] != 0 {
-            if apart(shape, c, p) {
-                return false;
-            }
+    for p in 0..shape.n {
+        if bits[p] != 0 && apart(shape, c, p) {
+            return false;
         }
-        p += 1;
     }
     true
 }
@@ -160,11 +148,10 @@ fn search(shape: Shape, s: &[u8], bits: &[u16; 64]) -> Damage
     requires { (Sized shape s.now) × (Bits shape s.now bits.now) }
     ensures { Searched shape s.now (found result) }
 {
-    let n = shape.n;
-    let m = shape.m;
     let mut next = 0;
+    // A `loop` that breaks out with its value is how document 01 has the search over columns.
     'columns: loop {
-        if n <= next {
+        if shape.n <= next {
             break 'columns Damage::Several;
         }
         let c = next;
@@ -172,39 +159,23 @@ fn search(shape: Shape, s: &[u8], bits: &[u16; 64]) -> Damage
         if !within(shape, bits, c) {
             continue 'columns;
         }
-        let mut d = 1;
-        while d < m {
+        for d in 1..shape.m {
             if !paired(shape, s, bits, c, d) {
                 continue 'columns;
             }
-            d += 1;
         }
         break 'columns Damage::Column(c);
     }
 }
 
 // Whether the stripe is sound, or which column a change has to be in to make it so; the stripe is only read.
-pub fn locate(shape: Shape, stripe: &[u8]) -> Located
+pub fn locate(shape: Shape, stripe: &[u8]) -> Result<Damage, Refusal>
     ensures { Locate shape stripe.now result }
 {
-    match shape.stripe_refusal(stripe) {
-        Answer::Done => {}
-        answer => {
-            return Located {
-                answer: answer,
-                damage: Damage::Sound,
-            };
-        }
-    }
+    shape.accept_stripe(stripe)?;
     let bits = bits_by_chain(shape, stripe);
     if unbroken(shape, &bits) {
-        return Located {
-            answer: Answer::Done,
-            damage: Damage::Sound,
-        };
+        return Ok(Damage::Sound);
     }
-    Located {
-        answer: Answer::Done,
-        damage: search(shape, stripe, &bits),
-    }
+    Ok(search(shape, stripe, &bits))
 }

@@ -1,38 +1,31 @@
 // What is asked of a block: whether it is zero or like a part of a slice, and how many of its bits are 1.
+// Each looks at every byte, without leaving early: that is what the compiler makes wide.
 #![tactic(auto)]
 
-ghost use Rattle.std.specs.Prelude.{◌≡◌, ◌+◌, ◌≤◌, length};
+ghost use Rattle.std.specs.Prelude.{◌≡◌, ◌+◌, ◌*◌, ◌^◌, ◌≤◌, ◌<◌, length};
 ghost use Rattle.std.specs.Int.Count.{ones};
 ghost use Rattle.xor.specs.Tells.{Tells};
-ghost use Rattle.block.specs.Block.{longest};
 ghost use Rattle.looking.specs.Looking.{Zero, Same, Ones};
 
-use block::LONGEST;
-
-// Whether the first len bytes of acc are 0; whoever calls it stays within the block.
-pub fn none(acc: &[u8; LONGEST], len: usize) -> bool
-    requires { len ≤ longest }
-    ensures { Tells (Zero acc.now len) result }
+// Whether all bytes of acc are 0.
+pub fn none<const LEN: usize>(acc: &[u8; LEN]) -> bool
+    ensures { Tells (Zero acc.now LEN) result }
 {
-    let mut any = 0u8;
-    let mut k = 0;
-    while k < len {
-        any = any | acc[k];
-        k += 1;
+    let mut any = 0;
+    for byte in acc {
+        any |= byte;
     }
     any == 0
 }
 
-// Whether the first len bytes of acc are those of s from `at` on; whoever calls it stays within the block and the slice.
-pub fn same(acc: &[u8; LONGEST], s: &[u8], at: usize, len: usize) -> bool
-    requires { (len ≤ longest) × (at + len ≤ length s.now) }
-    ensures { Tells (Same acc.now s.now at len) result }
+// Whether acc is like the bytes of s from `at` on; whoever calls it stays within the slice.
+pub fn same<const LEN: usize>(acc: &[u8; LEN], s: &[u8], at: usize) -> bool
+    requires { at + LEN ≤ length s.now }
+    ensures { Tells (Same acc.now s.now at LEN) result }
 {
-    let mut any = 0u8;
-    let mut k = 0;
-    while k < len {
-        any = any | (acc[k] ^ s[at + k]);
-        k += 1;
+    let mut any = 0;
+    for (k, byte) in acc.iter().enumerate() {
+        any |= byte ^ s[at + k];
     }
     any == 0
 }
@@ -44,16 +37,14 @@ fn bits(x: u8) -> u16
     u8::count_ones(x) as u16
 }
 
-// How many bits of the first len bytes of acc are 1; whoever calls it stays within the block.
-pub fn count(acc: &[u8; LONGEST], len: usize) -> u16
-    requires { len ≤ longest }
-    ensures { Ones acc.now len result }
+// How many bits of acc are 1; whoever calls it has a block whose bits a u16 counts.
+pub fn count<const LEN: usize>(acc: &[u8; LEN]) -> u16
+    requires { 8 * LEN < 2 ^ 16 }
+    ensures { Ones acc.now LEN result }
 {
-    let mut sum = 0u16;
-    let mut k = 0;
-    while k < len {
-        sum += bits(acc[k]);
-        k += 1;
+    let mut sum = 0;
+    for byte in acc {
+        sum += bits(*byte);
     }
     sum
 }

@@ -1,15 +1,15 @@
 -- Laws of bytes compared: a block that is the same, one part after another, and a search that goes on or ends.
--- To cite: level_then, matched_found, found_on, found_end; same_level, level_same.
+-- To cite: level_then, found_some, found_none, found_on, found_end; same_level, level_same.
 use mathlib.Core.Path.{◌≡◌, sym, ap, ◌∙◌}
-use mathlib.Core.Logic.{◌≢◌, inl, inr, ⊎_elim}
 use mathlib.Core.List.{List}
 use Prim.Native.Nat.{ℕ, ◌+◌, ◌-◌, ◌≤◌, ◌<◌}
 use native.Mathlib.Omega.{arith}
 use native.Mathlib.Decide.{dec_lt}
 use lib.ListN.{get_or}
+use Rattle.std.specs.Prelude.{Some, None}
 use Rattle.looking.specs.Looking.{Same}
 use Rattle.block.specs.Block.{Block}
-use Rattle.matching.specs.Matching.{Level, Matched, Found, bytes_at}
+use Rattle.matching.specs.Matching.{Level, Found, bytes_at}
 
 module _ (F G : ℕ → ℕ) where
   -- one part after another
@@ -21,19 +21,19 @@ module _ (F G : ℕ → ℕ) where
       on (no h) = next t (omega arith) b
 
   -- a part that fits, of the whole
-  pub matched_found : (from len w r : ℕ) → 1 ≤ len → from + len ≤ w → Matched F G from len r → Found F G from w r
-  matched_found from len w r lo hi (inl z) =
-      let e : from + r ≡ from + len = omega (arith, z.0) in
-      inl (omega (arith, z.0), omega (arith, z.0), λ t a b. z.1 t a (omega (arith, e)))
-  matched_found from len w r lo hi (inr z) = inr (z.0, λ h. z.1 (λ t a b. h t a (omega arith)))
+  pub found_some : (from len w : ℕ) → 1 ≤ len → from + len ≤ w → Level F G from (from + len) → Found F G from w (Some len)
+  found_some from len w lo hi h = (lo, hi, h)
+
+  pub found_none : (from len w : ℕ) → from + len ≤ w → ¬ Level F G from (from + len) → Found F G from w None
+  found_none from len w hi not h = not (λ t a b. h t a (omega arith))
 
   -- a search from `start` that has come to `from`: it goes on, or ends
-  module _ (start from w r : ℕ) (found : Found F G from w r) where
-    pub found_on : r ≢ 0 → Level F G start from → (1 ≤ r) × (from + r ≤ w) × Level F G start (from + r)
-    found_on ne before = ⊎_elim (λ z. (z.0, z.1, level_then start from (from + r) before z.2)) (λ z. absurd (ne z.0)) found
+  module _ (start from w : ℕ) where
+    pub found_on : (some : ℕ) → Found F G from w (Some some) → Level F G start from → (1 ≤ some) × (from + some ≤ w) × Level F G start (from + some)
+    found_on some found before = (found.0, found.1, level_then start from (from + some) before found.2)
 
-    pub found_end : r ≡ 0 → start ≤ from → ¬ Level F G start w
-    found_end e h all = ⊎_elim (λ z. omega (arith, z.0)) (λ z. z.1 (λ t a b. all t (omega arith) b)) found
+    pub found_end : Found F G from w None → start ≤ from → ¬ Level F G start w
+    found_end found h all = found (λ t a b. all t (omega arith) b)
 
   -- a block of F beside a slice that has G's bytes
   module _ (u : List ℕ) (at : ℕ) (is : (t : ℕ) → bytes_at u at t ≡ G t) (from len : ℕ) (acc : List ℕ) (b : Block (λ t. F (from + t)) len acc) where

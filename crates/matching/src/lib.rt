@@ -3,14 +3,14 @@
 
 ghost use Rattle.std.specs.Prelude.{◌≡◌, ◌+◌, ◌%◌, ◌≤◌, ◌<◌, length};
 ghost use Rattle.xor.specs.Tells.{Tells};
-ghost use Rattle.block.specs.Block.{longest};
 ghost use Rattle.summing.specs.Sums.{Fits, summed};
 ghost use Rattle.matching.specs.Matching.{Level, Matched, Found, bytes_at};
 
+use block::LONGEST;
 use summing::{Sum, sum_at};
 
-// Gives len if the sum's len bytes from `from` on are those of the symbol at `at` of u, and else 0.
-fn match_part<'a>(
+// Whether the sum's LEN bytes from `from` on are those of the symbol at `at` of u.
+fn match_part<'a, const LEN: usize>(
     s: &'a [u8],
     out: &'a [u8],
     list: &[u16; 32],
@@ -18,19 +18,16 @@ fn match_part<'a>(
     u: &[u8],
     at: usize,
     from: usize,
-    len: usize,
-) -> usize
-    requires { (len ≤ longest) × (Fits s.now out.now list.now x (from + len)) × (at + (from + len) ≤ length u.now) }
-    ensures { Matched (summed s.now out.now list.now x) (bytes_at u.now at) from len result }
+) -> bool
+    requires { (Fits s.now out.now list.now x (from + LEN)) × (at + (from + LEN) ≤ length u.now) }
+    ensures { Matched (summed s.now out.now list.now x) (bytes_at u.now at) from LEN result }
 {
-    let acc = sum_at(s, out, list, x, from, len);
-    if looking::same(&acc, u, at + from, len) {
-        return len;
-    }
-    0
+    let acc: [u8; LEN] = sum_at(s, out, list, x, from);
+    looking::same(&acc, u, at + from)
 }
 
-// Whether the first `whole` bytes, a number of whole blocks, are the same.
+// Whether the first `whole` bytes, a number of whole blocks, are the same. (Not `for`, which costs more instructions
+// a block.)
 fn match_blocks<'a>(
     s: &'a [u8],
     out: &'a [u8],
@@ -45,16 +42,15 @@ fn match_blocks<'a>(
 {
     let mut from = 0;
     while from < whole {
-        let some = match_part(s, out, list, x, u, at, from, 128);
-        if some == 0 {
+        if !match_part::<LONGEST>(s, out, list, x, u, at, from) {
             return false;
         }
-        from += some;
+        from += LONGEST;
     }
     true
 }
 
-// Gives how many of the bytes from `from` on are the same, as many as the longest length that fits; 0 if they are not.
+// How many of the bytes from `from` on are the same, as many as the longest length that fits; none if they are not.
 fn match_some<'a>(
     w: usize,
     s: &'a [u8],
@@ -64,21 +60,18 @@ fn match_some<'a>(
     u: &[u8],
     at: usize,
     from: usize,
-) -> usize
+) -> Option<usize>
     requires { (Fits s.now out.now list.now x w) × (at + w ≤ length u.now) × (from < w) }
     ensures { Found (summed s.now out.now list.now x) (bytes_at u.now at) from w result }
 {
-    let left = w - from;
-    if left < 16 {
-        return match_part(s, out, list, x, u, at, from, 1);
+    match w - from {
+        ..16 => match_part::<1>(s, out, list, x, u, at, from).then_some(1),
+        16..64 => match_part::<16>(s, out, list, x, u, at, from).then_some(16),
+        _ => match_part::<64>(s, out, list, x, u, at, from).then_some(64),
     }
-    if left < 64 {
-        return match_part(s, out, list, x, u, at, from, 16);
-    }
-    match_part(s, out, list, x, u, at, from, 64)
 }
 
-// Whether the bytes of the symbol of w bytes from `start` on are the same.
+// Whether the bytes of the symbol of w bytes from `start` on are the same. (Not `for`: the step varies.)
 fn match_tail<'a>(
     w: usize,
     s: &'a [u8],
@@ -94,10 +87,9 @@ fn match_tail<'a>(
 {
     let mut from = start;
     while from < w {
-        let some = match_some(w, s, out, list, x, u, at, from);
-        if some == 0 {
+        let Some(some) = match_some(w, s, out, list, x, u, at, from) else {
             return false;
-        }
+        };
         from += some;
     }
     true
@@ -116,7 +108,7 @@ pub fn matches<'a>(
     requires { (Fits s.now out.now list.now x w) × (at + w ≤ length u.now) }
     ensures { Tells (Level (summed s.now out.now list.now x) (bytes_at u.now at) 0 w) result }
 {
-    let whole = w - w % 128;
+    let whole = w - w % LONGEST;
     if match_blocks(s, out, list, x, u, at, whole) {
         return match_tail(w, s, out, list, x, u, at, whole);
     }

@@ -9,16 +9,14 @@ use lib.Dec.{eqb}
 use lib.ListN.{length, get_or, take, drop}
 use borrow.Author.Tests.{ne_eqb}
 use Rattle.shape.specs.declared.Shape.{Shape}
-use Rattle.answer.specs.declared.Answer.{Answer}
+use Rattle.answer.specs.Answers.{Answer, number}
 use Rattle.shape.specs.Good.{Good}
-use Rattle.answer.specs.Answers.{number}
 use Rattle.rule.specs.declared.Losses.{Losses}
 use Rattle.rule.specs.Losses.{named}
 use Rattle.rebuild.specs.Rebuild.{Cleared, Rebuild}
-use Rattle.kinds.specs.declared.Held.{Held}
-use Rattle.kinds.specs.declared.Held.TheVariants.{Some}
+use Rattle.std.specs.Prelude.{Some}
 use Rattle.kinds.specs.declared.Deed.{Deed}
-use Rattle.kinds.specs.Kinds.{rebuilding, kind_number, Wrong, deed, With, Rebuilds, TellsOf}
+use Rattle.kinds.specs.Kinds.{Held, rebuilding, kind_number, Wrong, deed, With, Rebuilds, TellsOf}
 use Rattle.kinds.specs.Holding.{Front}
 use Rattle.kinds.proofs.FrontLaws.{outcome_long, front_take, front_stripe, front_inside}
 use Rattle.kinds.proofs.HoldingLaws.{late, with_some}

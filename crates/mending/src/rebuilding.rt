@@ -2,12 +2,13 @@
 ghost use Rattle.std.specs.Prelude.{◌≡◌, List, length, ℕ};
 ghost use Rattle.xor.specs.Tells.{Tells};
 ghost use Rattle.rebuild.specs.Rebuild.{Cleared};
-ghost use Rattle.kinds.specs.Kinds.{Kind, Wrong, TellsOf};
+ghost use Rattle.kinds.specs.Kinds.{Kind, Wrong, deed_of, TellsOf};
 
-use answer::Answer;
-use kinds::{Deed, Held, accepted, front, told};
+use answer::Refusal;
+use kinds::{Numbers, accepted, front};
 use records::byte_at;
 use rule::named;
+use shape::Shape;
 
 // The most columns that can be lost.
 const MOST_LOST: usize = 2;
@@ -24,20 +25,21 @@ fn miscounted(payload: &[u8]) -> bool
 }
 
 // Kind 6: rebuild; x is how many columns were lost. The workspace is left to be cleared.
-pub fn mend(held: Held, payload: &[u8], stripe: &mut [u8], work: &mut [u8]) -> Deed
-    ensures { (length work.new ≡ length work.old) × ((clear : List ℕ) → Cleared (length work.old) clear → TellsOf 6 held payload.now stripe.old (length work.old) result stripe.new clear) }
+pub fn mend(
+    held: Option<Shape>,
+    payload: &[u8],
+    stripe: &mut [u8],
+    work: &mut [u8],
+) -> Result<Numbers, Refusal>
+    ensures { (length work.new ≡ length work.old) × ((clear : List ℕ) → Cleared (length work.old) clear → TellsOf 6 held payload.now stripe.old (length work.old) (deed_of held result) stripe.new clear) }
 {
-    let Held::Some(shape) = accepted(held) else {
-        return told(held, Answer::NoShape, 0, 0);
-    };
+    let shape = accepted(held).ok_or(Refusal::NoShape)?;
     if miscounted(payload) {
-        return told(held, Answer::BadPayload, 0, 0);
+        return Err(Refusal::BadPayload);
     }
     let count = byte_at(payload, 0);
     let lost = named(count, byte_at(payload, 1), byte_at(payload, 2));
     let end = front(shape, stripe.len());
-    match rebuild::rebuild(shape, lost, &mut stripe[..end], work) {
-        Answer::Done => told(held, Answer::Done, count, 0),
-        answer => told(held, answer, 0, 0),
-    }
+    rebuild::rebuild(shape, lost, &mut stripe[..end], work)?;
+    Ok(Numbers { x: count, y: 0 })
 }

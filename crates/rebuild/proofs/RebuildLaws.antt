@@ -9,10 +9,11 @@ use native.Mathlib.Decide.{dec_lt}
 use lib.ListN.{length, replicate, length-replicate, get_or-replicate}
 use lib.Seq.{ext_get_or}
 use Rattle.shape.specs.declared.Shape.{Shape}
-use Rattle.answer.specs.declared.Answer.{Answer}
-use Rattle.answer.specs.declared.Answer.TheVariants.{Done, SmallWorkspace, NoSuchPlace, SameColumn, Disagree}
+use Rattle.answer.specs.Answers.{Answer}
+use Rattle.std.specs.Prelude.{Ok, Err}
+use Rattle.answer.specs.declared.Refusal.TheVariants.{SmallWorkspace, NoSuchPlace, SameColumn, Disagree}
 use Rattle.shape.specs.Place.{column_length}
-use Rattle.answer.specs.Answers.{number, First, Rises}
+use Rattle.answer.specs.Answers.{refusal_number, number, First, Rises}
 use Rattle.shape.specs.Refusals.{shape_table, stripe_table}
 use Rattle.answer.specs.Outcome.{Outcome}
 use Rattle.answer.proofs.AnswersLaws.{number_apart, number_done, first_one, first_stop, first_pass, first_clear, first_split, Lacks, Like, like_append, like_first}
@@ -91,19 +92,19 @@ module _ (sh : Shape) (lost : Losses) (s : List ℕ) (room : ℕ) where
       cleared_one c d = ext_get_or 0 u v (c.long ∙ sym d.long) (λ i h. c.zero i (omega (arith, c.long)) ∙ sym (d.zero i (omega (arith, c.long))))
 
   early_ready : Ready (early_table sh lost s room)
-  unfolding early_table number
+  unfolding early_table number refusal_number
   early_ready = stripe_ready_rest sh s _ (λ g e. (
-    SmallWorkspace,
+    (Err SmallWorkspace),
     refl,
     dec_lt room (2 * column_length sh),
-    λ p. (NoSuchPlace, refl, beyond? sh.n lost, λ q. (SameColumn, refl, twice? lost, λ r. tt)),
+    λ p. ((Err NoSuchPlace), refl, beyond? sh.n lost, λ q. ((Err SameColumn), refl, twice? lost, λ r. tt)),
   ))
 
   pub rebuild_some : (a : Answer) × (x u : List ℕ) × Rebuild sh lost s room a x u
-  unfolding rebuild_table number
+  unfolding rebuild_table number refusal_number
   rebuild_some =
       let (a, x, h) = call_some {T = rebuild_table sh lost s room} s (Solves sh lost s) (ready_append (early_table sh lost s room) (late_table sh lost s) early_ready (λ h.
-      let o = early_good h in (Disagree, refl, none (solves? sh o.shape lost o.columns o.apart s o.stripe), λ t. tt))) (λ h.
+      let o = early_good h in ((Err Disagree), refl, none (solves? sh o.shape lost o.columns o.apart s o.stripe), λ t. tt))) (λ h.
       let (o, nine) = rows_passed 0 (inl refl) h in found (solves? sh o.shape lost o.columns o.apart s o.stripe) (first_clear 8 nine).0) in
       (a, x, replicate room 0, record { outcome = h; cleared = record { long = length-replicate room 0; zero = λ i l. get_or-replicate room i 0 0 l } })
     where
@@ -118,31 +119,31 @@ module _ (sh : Shape) (lost : Losses) (s : List ℕ) (room : ℕ) where
   -- ---- exactly
 
   module _ (a : Answer) (x u : List ℕ) (p : Rebuild sh lost s room a x u) where
-    pub rebuild_otherwise : (a ≡ Done) ⊎ (a ≡ Disagree) → OtherwiseGood sh lost s room
-    unfolding number
+    pub rebuild_otherwise : (a ≡ (Ok tt)) ⊎ (a ≡ (Err Disagree)) → OtherwiseGood sh lost s room
+    unfolding number refusal_number
     rebuild_otherwise is = (rows_passed (number a) (at is) p.outcome.answer).0
       where
-        at : (a ≡ Done) ⊎ (a ≡ Disagree) → (number a ≡ 0) ⊎ (number a ≡ 9)
+        at : (a ≡ (Ok tt)) ⊎ (a ≡ (Err Disagree)) → (number a ≡ 0) ⊎ (number a ≡ 9)
         at (inl e) = inl (ap number e)
         at (inr e) = inr (ap number e)
 
     -- row 9 decides a call that is otherwise good
-    pub rebuild_decides : OtherwiseGood sh lost s room → (Disagrees sh lost s × (a ≡ Disagree)) ⊎ ((¬ Disagrees sh lost s) × (a ≡ Done))
-    unfolding number
+    pub rebuild_decides : OtherwiseGood sh lost s room → (Disagrees sh lost s × (a ≡ (Err Disagree))) ⊎ ((¬ Disagrees sh lost s) × (a ≡ (Ok tt)))
+    unfolding number refusal_number
     rebuild_decides o = at (solves? sh o.shape lost o.columns o.apart s o.stripe)
       where
         is : (b : Answer) → First (late_table sh lost s) (number b) → a ≡ b
         is b h = number_apart a b (first_one (rebuild_table sh lost s room) (number a) (number b) p.outcome.answer (rows_pass (number b) o h))
 
-        at : Dec ((x : List ℕ) × Solves sh lost s x) → (Disagrees sh lost s × (a ≡ Disagree)) ⊎ ((¬ Disagrees sh lost s) × (a ≡ Done))
-        at (yes z) = let n : ¬ Disagrees sh lost s = λ f. f z.0 z.1 in inr (n, is Done (inr (n, refl)))
-        at (no z) = let d : Disagrees sh lost s = λ y q. z (y, q) in inl (d, is Disagree (inl (d, refl)))
+        at : Dec ((x : List ℕ) × Solves sh lost s x) → (Disagrees sh lost s × (a ≡ (Err Disagree))) ⊎ ((¬ Disagrees sh lost s) × (a ≡ (Ok tt)))
+        at (yes z) = let n : ¬ Disagrees sh lost s = λ f. f z.0 z.1 in inr (n, is (Ok tt) (inr (n, refl)))
+        at (no z) = let d : Disagrees sh lost s = λ y q. z (y, q) in inl (d, is (Err Disagree) (inl (d, refl)))
 
     -- what solves is what is left
-    pub rebuild_solves : OtherwiseGood sh lost s room → (y : List ℕ) → Solves sh lost s y → (a ≡ Done) × (x ≡ y)
+    pub rebuild_solves : OtherwiseGood sh lost s room → (y : List ℕ) → Solves sh lost s y → (a ≡ (Ok tt)) × (x ≡ y)
     rebuild_solves o y sol = at (rebuild_decides o)
       where
-        at : (Disagrees sh lost s × (a ≡ Disagree)) ⊎ ((¬ Disagrees sh lost s) × (a ≡ Done)) → (a ≡ Done) × (x ≡ y)
+        at : (Disagrees sh lost s × (a ≡ (Err Disagree))) ⊎ ((¬ Disagrees sh lost s) × (a ≡ (Ok tt))) → (a ≡ (Ok tt)) × (x ≡ y)
         at (inl z) = absurd (z.0 y sol)
         at (inr z) = (z.1, solves_one sh o.shape lost o.columns o.apart s o.stripe x y (p.outcome.done ((number_done a).1 z.1)) sol)
 
@@ -166,7 +167,7 @@ module _ (sh : Shape) (lost : Losses) (s s₂ : List ℕ) (len : length s ≡ le
   across x = (solves_across sh lost s s₂ x len agree, solves_across sh lost s₂ s x (sym len) (agrees_sym sh lost s s₂ agree))
 
   pub rebuild_old_bytes : (room : ℕ) (a b : Answer) (x y u v : List ℕ) → Rebuild sh lost s room a x u → Rebuild sh lost s₂ room b y v
-      → (a ≡ b) × (a ≡ Done → x ≡ y) × (a ≢ Done → (x ≡ s) × (y ≡ s₂))
+      → (a ≡ b) × (a ≡ (Ok tt) → x ≡ y) × (a ≢ (Ok tt) → (x ≡ s) × (y ≡ s₂))
   rebuild_old_bytes room a b x y u v p q = (
     e,
     (λ d. sym (rebuild_solves sh lost s₂ room b y v q (rebuild_otherwise sh lost s₂ room b y v q (inl (sym e ∙ d))) x

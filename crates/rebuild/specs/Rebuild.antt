@@ -2,7 +2,7 @@
 -- s' and work' are the stripe and the workspace as left. Definitions only.
 use Rattle.std.specs.Prelude.{◌≡◌, List, [], ◌∷◌, ◌++◌, ℕ, ◌*◌, ◌≤◌, ◌<◌, length, get_or}
 use Rattle.shape.specs.declared.Shape.{Shape}
-use Rattle.answer.specs.declared.Answer.{Answer}
+use Rattle.answer.specs.Answers.{Answer}
 use Rattle.shape.specs.Good.{Good, size}
 use Rattle.shape.specs.Place.{column_length}
 use Rattle.answer.specs.Answers.{number, Table}

@@ -6,9 +6,9 @@ ghost use Rattle.answer.specs.Outcome.{Outcome};
 ghost use Rattle.rule.specs.Losses.{Solves};
 ghost use Rattle.rebuild.specs.Rebuild.{late_table, rebuild_table, OtherwiseGood, Rebuild};
 
-use crate::refusing::refusal;
+use crate::refusing::accept;
 use agreeing::agree;
-use answer::Answer;
+use answer::{Answer, Refusal};
 use committing::{commit, stores};
 use rule::Losses;
 use shape::Shape;
@@ -22,20 +22,18 @@ fn mend(shape: Shape, lost: Losses, stripe: &mut [u8], work: &mut [u8], table: &
     let x = read(shape, lost);
     stage(stripe, work, table, x);
     if !agree(stripe, work, table, x) {
-        return Answer::Disagree;
+        return Err(Refusal::Disagree);
     }
     commit(stripe, work, x, stores(x));
-    Answer::Done
+    Ok(())
 }
 
 // A rebuild but for the clearing of the workspace.
 fn attempt(shape: Shape, lost: Losses, stripe: &mut [u8], work: &mut [u8]) -> Answer
     ensures { (length work.new ≡ length work.old) × (Outcome (rebuild_table shape lost stripe.old (length work.old)) stripe.old (Solves shape lost stripe.old) (number result) stripe.new) }
 {
-    match refusal(shape, lost, stripe, work.len()) {
-        Answer::Done => mend(shape, lost, stripe, work, &listing::table(shape)),
-        answer => answer,
-    }
+    accept(shape, lost, stripe, work.len())?;
+    mend(shape, lost, stripe, work, &listing::table(shape))
 }
 
 // Writes the lost columns of a stripe from its survivors, if they agree. The workspace is all zero after it, under every answer.

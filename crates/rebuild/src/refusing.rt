@@ -1,27 +1,24 @@
-// What a rebuild is refused for before its survivors are asked.
+// What a rebuild asks before its survivors.
 ghost use Rattle.answer.specs.Answers.{number, First};
 ghost use Rattle.rebuild.specs.Rebuild.{early_table};
 
-use answer::Answer;
+use answer::{Answer, Refusal};
 use rule::{Losses, beyond, twice};
 use shape::Shape;
 
-// The refusals 1 to 7 of a rebuild with a workspace of `room` bytes; Done where none applies.
-pub(crate) fn refusal(shape: Shape, lost: Losses, stripe: &[u8], room: usize) -> Answer
+// Asks what a rebuild with a workspace of `room` bytes asks before its survivors: the first of the refusals 1 to 7 that applies refuses it.
+pub(crate) fn accept(shape: Shape, lost: Losses, stripe: &[u8], room: usize) -> Answer
     ensures { First (early_table shape lost stripe.now room) (number result) }
 {
-    match shape.stripe_refusal(stripe) {
-        Answer::Done => {}
-        answer => return answer,
-    }
+    shape.accept_stripe(stripe)?;
     if room < 2 * shape.column_length() {
-        return Answer::SmallWorkspace;
+        return Err(Refusal::SmallWorkspace);
     }
     if beyond(shape.n, lost) {
-        return Answer::NoSuchPlace;
+        return Err(Refusal::NoSuchPlace);
     }
     if twice(lost) {
-        return Answer::SameColumn;
+        return Err(Refusal::SameColumn);
     }
-    Answer::Done
+    Ok(())
 }

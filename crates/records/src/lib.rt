@@ -15,10 +15,7 @@ const LONGEST: usize = 4100;
 pub fn byte_at(s: &[u8], i: usize) -> usize
     ensures { (result ≡ get_or s.now i 0) × (result ≤ 255) }
 {
-    if i < s.len() {
-        return s[i] as usize;
-    }
-    0
+    usize::from(s.get(i).copied().unwrap_or(0))
 }
 
 // The two-byte number at a place, the low byte first; whoever calls it stays within the slice.

@@ -7,14 +7,12 @@ use native.Mathlib.Omega.{arith}
 use lib.ListN.{length, get_or, take, drop, length-drop}
 use lib.Seq.{take_all}
 use Rattle.shape.specs.declared.Shape.{Shape}
-use Rattle.answer.specs.declared.Answer.{Answer}
-use Rattle.answer.specs.Answers.{number}
+use Rattle.answer.specs.Answers.{Answer, number}
 use Rattle.writing.specs.Write.{SmallWrite}
 use Rattle.storing.specs.Store.{RawStore}
-use Rattle.kinds.specs.declared.Held.{Held}
-use Rattle.kinds.specs.declared.Held.TheVariants.{Some}
+use Rattle.std.specs.Prelude.{Some}
 use Rattle.kinds.specs.declared.Deed.{Deed}
-use Rattle.kinds.specs.Kinds.{deed, With, Stores}
+use Rattle.kinds.specs.Kinds.{Held, deed, With, Stores}
 use Rattle.kinds.specs.Holding.{Front}
 use Rattle.kinds.proofs.FrontLaws.{outcome_long, front_take, front_stripe, front_inside}
 use Rattle.kinds.proofs.HoldingLaws.{with_some}

@@ -4,5 +4,5 @@
 mod shaping;
 mod symbols;
 
-pub use shaping::begin;
+pub use shaping::{begin, begun};
 pub use symbols::{store, write};

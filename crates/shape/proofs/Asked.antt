@@ -1,23 +1,22 @@
--- What those who match on the answer of a refusal learn: in the arm for Done that the shape is good and its stripe of the right length, in an arm for all
--- others the rows by which `stripe_refusal` goes.
--- To cite: done_good and done_stripe in the arm for Done; stripe_stop in the arm for all others; shape_stop and stripe_4 for `stripe_refusal` itself.
+-- What those who ask of a shape learn: past the `?` that it is good and its stripe of the right length, and where the `?` returns the rows by which
+-- `accept_stripe` goes.
+-- To cite: done_good and done_stripe past the `?`; stripe_stop where it returns; shape_stop and stripe_4 for `accept_stripe` itself.
 use mathlib.Core.Path.{◌≡◌, refl}
 use mathlib.Core.Logic.{◌≢◌, inl}
 use mathlib.Core.List.{List, ◌++◌}
 use Prim.Native.Nat.{ℕ}
 use native.Mathlib.Omega.{arith}
 use lib.ListN.{length}
+use Rattle.std.specs.Prelude.{Ok}
 use Rattle.shape.specs.declared.Shape.{Shape}
-use Rattle.answer.specs.declared.Answer.{Answer}
-use Rattle.answer.specs.declared.Answer.TheVariants.{Done}
 use Rattle.shape.specs.Good.{Good, size}
-use Rattle.answer.specs.Answers.{number, Table, First}
+use Rattle.answer.specs.Answers.{Answer, number, Table, First}
 use Rattle.shape.specs.Refusals.{shape_table, stripe_table}
 use Rattle.answer.proofs.AnswersLaws.{Lacks, first_stop, first_pass}
 use Rattle.shape.proofs.GoodLaws.{shape_done, stripe_done}
 
--- `refusal` answers Done only for a good shape
-pub done_good : (sh : Shape) (a : Answer) → First (shape_table sh) (number a) → a ≡ Done → Good sh
+-- `accept` answers Ok only for a good shape
+pub done_good : (sh : Shape) (a : Answer) → First (shape_table sh) (number a) → a ≡ Ok tt → Good sh
 unfolding number
 done_good sh a h e = (shape_done sh).1 (rw e at h)
 
@@ -34,7 +33,7 @@ module _ (sh : Shape) (s : List ℕ) where
   unfolding stripe_table
   stripe_4 good ne = first_pass (shape_table sh) _ 4 shape_lacks ((shape_done sh).0 good) (inl (ne, refl))
 
-  pub done_stripe : (a : Answer) → First (stripe_table sh s) (number a) → a ≡ Done → Good sh × (length s ≡ size sh)
+  pub done_stripe : (a : Answer) → First (stripe_table sh s) (number a) → a ≡ Ok tt → Good sh × (length s ≡ size sh)
   unfolding number
   done_stripe a h e = (stripe_done sh s).1 (rw e at h)
 

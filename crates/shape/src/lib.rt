@@ -9,7 +9,7 @@ ghost use Rattle.shape.specs.Place.{height, row, slot};
 ghost use Rattle.shape.specs.Placed.{Placed, ColumnSized, StripeSized, Stepped};
 ghost use Rattle.shape.specs.Step.{left, right};
 
-use answer::Answer;
+use answer::{Answer, Refusal};
 
 // The fewest rows of a shape.
 const FEWEST_ROWS: usize = 2;
@@ -38,49 +38,44 @@ pub struct Shape {
 }
 
 impl Shape {
-    // The answer that the shape by itself gets: the first of BadRows, BadColumns and BadSymbol that applies, or Done.
-    pub fn refusal(self) -> Answer
+    // Asks of the shape by itself: the first of BadRows, BadColumns and BadSymbol that applies refuses it.
+    pub fn accept(self) -> Answer
         ensures { First (shape_table self) (number result) }
     {
-        let m = self.m;
-        let n = self.n;
-        let w = self.w;
+        let Shape { m, n, w } = self;
         if m < FEWEST_ROWS {
-            return Answer::BadRows;
+            return Err(Refusal::BadRows);
         }
         if MOST_ROWS < m {
-            return Answer::BadRows;
+            return Err(Refusal::BadRows);
         }
         if n < 4 * m - 3 {
-            return Answer::BadColumns;
+            return Err(Refusal::BadColumns);
         }
         if MOST_COLUMNS < n {
-            return Answer::BadColumns;
+            return Err(Refusal::BadColumns);
         }
         if w < SHORTEST_SYMBOL {
-            return Answer::BadSymbol;
+            return Err(Refusal::BadSymbol);
         }
         if LONGEST_SYMBOL < w {
-            return Answer::BadSymbol;
+            return Err(Refusal::BadSymbol);
         }
         if LARGEST_STRIPE < m * n * w {
-            return Answer::BadSymbol;
+            return Err(Refusal::BadSymbol);
         }
-        Answer::Done
+        Ok(())
     }
 
-    // The answer that the shape and the length of a stripe get: the first of BadRows, BadColumns, BadSymbol and BadStripe that applies, or Done.
-    pub fn stripe_refusal(self, stripe: &[u8]) -> Answer
+    // Asks of the shape and of the length of a stripe: the first of BadRows, BadColumns, BadSymbol and BadStripe that applies refuses them.
+    pub fn accept_stripe(self, stripe: &[u8]) -> Answer
         ensures { First (stripe_table self stripe.now) (number result) }
     {
-        match self.refusal() {
-            Answer::Done => {}
-            answer => return answer,
-        }
+        self.accept()?;
         if stripe.len() != self.stripe_length() {
-            return Answer::BadStripe;
+            return Err(Refusal::BadStripe);
         }
-        Answer::Done
+        Ok(())
     }
 
     // Of m, number k counted from the other end: rows go down and heights go up. 0 where k is m or more.
@@ -116,7 +111,7 @@ impl Shape {
         self.m - 1 - height
     }
 
-    // How many bytes a column has; whoever calls it has had `refusal` answer Done.
+    // How many bytes a column has; whoever calls it has had `accept` answer Ok.
     pub fn column_length(self) -> usize
         requires { Good self }
         ensures { ColumnSized self result }
@@ -124,7 +119,7 @@ impl Shape {
         self.m * self.w
     }
 
-    // How many bytes the stripe has; whoever calls it has had `refusal` answer Done.
+    // How many bytes the stripe has; whoever calls it has had `accept` answer Ok.
     pub fn stripe_length(self) -> usize
         requires { Good self }
         ensures { StripeSized self result }
@@ -132,7 +127,7 @@ impl Shape {
         self.m * self.n * self.w
     }
 
-    // Where the symbol of a height in a column starts; whoever calls it has had `refusal` answer Done, and asks within the shape.
+    // Where the symbol of a height in a column starts; whoever calls it has had `accept` answer Ok, and asks within the shape.
     pub fn place(self, height: usize, column: usize) -> usize
         requires { (Good self) × (height < self.m) × (column < self.n) }
         ensures { Placed self height column result }
@@ -140,7 +135,7 @@ impl Shape {
         column * self.column_length() + self.slot(height) * self.w
     }
 
-    // The column as many steps to the left as the height says; whoever calls it has had `refusal` answer Done, and asks within the shape.
+    // The column as many steps to the left as the height says; whoever calls it has had `accept` answer Ok, and asks within the shape.
     pub fn left(self, column: usize, height: usize) -> usize
         requires { (Good self) × (column < self.n) × (height < self.m) }
         ensures { Stepped self.n (left self.n column height) result }
@@ -149,7 +144,7 @@ impl Shape {
         (column + (n - height)) % n
     }
 
-    // The column as many steps to the right as the height says; whoever calls it has had `refusal` answer Done, and asks within the shape.
+    // The column as many steps to the right as the height says; whoever calls it has had `accept` answer Ok, and asks within the shape.
     pub fn right(self, column: usize, height: usize) -> usize
         requires { (Good self) × (column < self.n) × (height < self.m) }
         ensures { Stepped self.n (right self.n column height) result }

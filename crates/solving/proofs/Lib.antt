@@ -1,5 +1,6 @@
 pub mod SideLaws
 pub mod OwnLaws
 pub mod StoresLaws
+pub mod CallsLaws
 pub mod SolvedLaws
 pub mod AloneLaws

@@ -46,9 +46,7 @@ pub fn solve_alone(s: &[u8], out: &mut [u8], table: &[u16; 32], x: Gone, side: u
     requires { (Lone x side s.now out.old) × (Table x.shape table.now) }
     ensures { (length out.new ≡ length out.old) × ((v : ℕ → ℕ → ℕ → ℕ) → Solved x s.now v → SolvedAlone x v side out.old out.new) }
 {
-    let mut d = x.shape.m;
-    while 0 < d {
-        d -= 1;
+    for d in (0..x.shape.m).rev() {
         let p = chain_of(x, side, d);
         let h = d + x.walk;
         let at = base_of(x, side) + x.shape.place(d, 0);

@@ -1,7 +1,6 @@
 -- Laws of the sources of a lost symbol: what the list gives with the lost symbol's place taken by the parity symbol's, and the asked one's by the last.
 use mathlib.Core.Path.{◌≡◌, refl, sym, ap, ap₂, ◌∙◌}
 use mathlib.Core.Logic.{◌≢◌, ◌⊎◌, ⊎_elim}
-use mathlib.Core.Bool.{true, false}
 use mathlib.Core.List.{List}
 use Prim.Native.Nat.{ℕ, zero, suc, ◌+◌, ◌-◌, ◌*◌, ◌≤◌, ◌<◌}
 use native.Mathlib.Omega.{arith}
@@ -17,6 +16,7 @@ use Rattle.shape.specs.Place.{byte}
 use Rattle.shape.proofs.StepLaws.{left_zero, right_zero}
 use Rattle.rule.specs.Rule.{others, chain}
 use Rattle.listing.specs.Places.{Laid}
+use Rattle.summing.specs.declared.Lies.TheVariants.{Stripe, Buffer}
 use Rattle.summing.specs.Sums.{flat, summed}
 use Rattle.sourcing.specs.Sources.{beside, besides, Sourced}
 use Rattle.summing.proofs.SumsLaws.{entry}
@@ -97,7 +97,7 @@ module _ (sh : Shape) (good : Good sh) (p : ℕ) (hp : p < sh.n) (side : ℕ) (h
 
     -- there is no height h
     pub sourced_top : sh.m ≤ h
-        → Sourced sh p side d aside h b l (record { count = 2 * sh.m - 4; a = get_or l (2 * sh.m - 4) 0; asked = false; b = get_or l (2 * sh.m - 4 + 1) 0 })
+        → Sourced sh p side d aside h b l (record { count = 2 * sh.m - 4; a = get_or l (2 * sh.m - 4) 0; b = Stripe (get_or l (2 * sh.m - 4 + 1) 0) })
     unfolding summed besides
     sourced_top far = record {
       fits = λ s out es room. record {
@@ -113,7 +113,7 @@ module _ (sh : Shape) (good : Good sh) (p : ℕ) (hp : p < sh.n) (side : ℕ) (h
       sum = λ s out t ht.
           top_at s l t (2 * sh.m - 4) ∙ ap (flat s l t) four ∙ u.sum s t
           ∙ rw (le-ltb h sh.m far) (sym (⊕_zero_r _ ∙ ⊕_zero_r _));
-      asks = (sym (le-ltb h sh.m far), λ z. absurd (omega arith));
+      asks = (λ i q. let z : ◌≡◌ {A = ℕ} 0 1 = cc in absurd (omega arith), λ z. absurd (omega arith));
     }
 
     -- the symbol of height h was asked for
@@ -142,7 +142,7 @@ module _ (sh : Shape) (good : Good sh) (p : ℕ) (hp : p < sh.n) (side : ℕ) (h
       next_small = omega (arith, last_ends (2 * sh.m - 4) (omega (arith, good.m_fits.0)), good.all_fits)
 
       pub sourced_next : Sourced sh p side d aside h b (set l (2 * h - 1 - aside) (get_or l (2 * sh.m - 4 + 1) 0))
-          (record { count = 2 * sh.m - 4; a = get_or (set l (2 * h - 1 - aside) (get_or l (2 * sh.m - 4 + 1) 0)) (2 * sh.m - 4) 0; asked = true; b = b })
+          (record { count = 2 * sh.m - 4; a = get_or (set l (2 * h - 1 - aside) (get_or l (2 * sh.m - 4 + 1) 0)) (2 * sh.m - 4) 0; b = Buffer b })
       unfolding summed besides last
       sourced_next = record {
         fits = λ s out es room. record {
@@ -161,7 +161,7 @@ module _ (sh : Shape) (good : Good sh) (p : ℕ) (hp : p < sh.n) (side : ℕ) (h
             (flat_drop s l t (2 * h - 1 - aside) (2 * sh.m - 4 + 1) (omega (arith, u.long, good.m_fits.1)) (omega arith)
             ∙ ap₂ ◌⊕◌ (ap (flat s l t) five ∙ u.sum s t) (ap (λ (a : ℕ). get_or s (a + t) 0) kept ∙ side_entry sh good p hp l₀ c aside ha s t h lo near))
             ∙ rw (lt-ltb h sh.m near);
-        asks = (sym (lt-ltb h sh.m near), λ z. refl);
+        asks = (λ i q. (near, cc), λ z. refl);
       }
         where
           five : 2 * sh.m - 4 + 1 + 1 ≡ 2 * sh.m - 2

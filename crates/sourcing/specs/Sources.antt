@@ -6,6 +6,7 @@ use Rattle.shape.specs.Good.{size}
 use Rattle.shape.specs.Place.{byte}
 use Rattle.shape.specs.Step.{left, right}
 use Rattle.rule.specs.Rule.{Grid, chain}
+use Rattle.summing.specs.declared.Lies.TheVariants.{Buffer}
 use Rattle.summing.specs.declared.Sum.{Sum}
 use Rattle.summing.specs.Sums.{summed, Fits}
 
@@ -23,4 +24,4 @@ pub record Sourced (sh : Shape) (p side d aside h b : ℕ) (list : List ℕ) (x 
   pub fits : (s out : List ℕ) → length s ≡ size sh → (h < sh.m → (b + sh.w ≤ length out) × (b + sh.w ≤ 262144)) → Fits s out list x sh.w
   pub sum : (s out : List ℕ) (t : ℕ) → t < sh.w
       → summed s out list x t ≡ besides sh.m sh.n (byte sh s t) p side d aside h ⊕ cond (ltb h sh.m) (get_or out (b + t) 0) 0
-  pub asks : (x.asked ≡ ltb h sh.m) × (h < sh.m → x.b ≡ b)
+  pub asks : ((c : ℕ) → x.b ≡ Buffer c → (h < sh.m) × (c ≡ b)) × (h < sh.m → x.b ≡ Buffer b)

@@ -7,10 +7,12 @@ ghost use Rattle.listing.specs.Places.{Laid};
 ghost use Rattle.sourcing.specs.Sources.{Sourced};
 
 use shape::Shape;
-use summing::Sum;
+use summing::{Lies, Sum};
 
-// The sources of the symbol of height d on a side of chain p, whose places are in the list: the chain without that symbol and without the one of height h on the side `aside`, in whose place
-// the buffer's symbol at b stands. With no height h there is nothing at b. The lost symbol's place in the list is taken by the parity symbol's, the asked one's by the last.
+// The sources of the symbol of height d on a side of chain p, whose places are in the list: the chain without that
+// symbol and without the one of height h on the side `aside`, in whose place the buffer's symbol at b stands. With no
+// height h there is nothing at b. The lost symbol's place in the list is taken by the parity symbol's, the asked
+// one's by the last.
 pub fn sources(
     list: &mut [u16; 32],
     sh: Shape,
@@ -33,14 +35,12 @@ pub fn sources(
         return Sum {
             count: last,
             a: list[last] as usize,
-            asked: true,
-            b: b,
+            b: Lies::Buffer(b),
         };
     }
     Sum {
         count: last,
         a: list[last] as usize,
-        asked: false,
-        b: list[last + 1] as usize,
+        b: Lies::Stripe(list[last + 1] as usize),
     }
 }

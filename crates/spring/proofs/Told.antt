@@ -1,37 +1,48 @@
 -- What rebuild's contract says of the checks: one outcome, whatever the workspace held, and a workspace that is all zero.
-use mathlib.Core.Path.{◌≡◌, sym, ap, ◌∙◌}
+use mathlib.Core.Path.{◌≡◌, refl, sym, ap, ◌∙◌}
+use mathlib.Core.Bool.{Bool, true, true≢false}
 use mathlib.Core.Logic.{◌≢◌, ◌⊎◌, inl, inr, ⊎_elim}
 use mathlib.Core.List.{List}
 use Prim.Native.Nat.{ℕ, ◌+◌, ◌-◌, ◌*◌, ◌≤◌, ◌<◌}
 use native.Mathlib.Omega.{arith}
 use native.Mathlib.Decide.{dec_lt}
 use lib.ListN.{length, get_or}
-use lib.Seq.{ext_get_or}
-use Rattle.xor.specs.Spanned.{Spanned}
-use Rattle.looking.specs.Looking.{Zero}
 use Rattle.shape.specs.declared.Shape.{Shape}
-use Rattle.answer.specs.declared.Answer.{Answer}
+use Rattle.std.specs.Prelude.{Ok, Err, is_err}
+use Rattle.std.specs.Result.{result_eq}
+use Rattle.answer.specs.declared.Refusal.{Refusal}
+use Rattle.answer.specs.Answers.{Answer}
 use Rattle.shape.specs.Good.{size, Good, shape}
 use Rattle.shape.specs.Place.{row, slot, place, byte}
 use Rattle.answer.specs.Answers.{number}
 use Rattle.shape.specs.Refusals.{stripe_table}
-use Rattle.answer.proofs.AnswersLaws.{first_one}
+use Rattle.answer.proofs.AnswersLaws.{first_one, refused}
 use Rattle.shape.proofs.GoodLaws.{stripe_done}
 use Rattle.rule.specs.declared.Losses.{Losses}
 use Rattle.rule.specs.declared.Losses.TheVariants.{Two}
 use Rattle.rule.specs.Rule.{Obeys}
 use Rattle.rule.specs.Losses.{Bytes, Agrees}
 use Rattle.encoding.specs.Encode.{Encode}
-use Rattle.rebuild.specs.Rebuild.{Cleared, Rebuild}
+use Rattle.rebuild.specs.Rebuild.{Rebuild}
 use Rattle.rebuild.proofs.RebuildLaws.{rebuild_one, rebuild_solves}
 
 pub same_outcome : {sh : Shape} {lost : Losses} {s : List ℕ} {room own : ℕ} {a b : Answer} {x y u v : List ℕ} → room ≡ own
-    → Rebuild sh lost s room a x u → Rebuild sh lost s own b y v → (number a ≡ number b) × (x ≡ y)
+    → Rebuild sh lost s room a x u → Rebuild sh lost s own b y v → (a ≡ b) × (x ≡ y)
 same_outcome {sh} {lost} {s} {room} {own} {a} {b} {x} {y} {u} {v} e p q =
-    let one = rebuild_one sh lost s own a b x y u v (rw e at p) q in (ap number one.0, one.1)
+    let one = rebuild_one sh lost s own a b x y u v (rw e at p) q in (one.0, one.1)
 
-pub all_zero : {room : ℕ} {u : List ℕ} → Cleared room u → Zero u (length u)
-all_zero h t l = h.zero t (omega (arith, h.long))
+-- equal answers are alike for `==`
+pub same_answer : (E : Unit {0} → Unit {0} → Bool) (F : Refusal → Refusal → Bool) (a b : Answer) → E tt tt ≡ true → ((r : Refusal) → F r r ≡ true) → a ≡ b → result_eq E F a b ≡ true
+same_answer E F a b done same e = rw (sym e) (alike a)
+  where
+    alike : (k : Answer) → result_eq E F k k ≡ true
+    alike (Ok x) = done
+    alike (Err r) = same r
+
+-- an `Err` has a number other than 0
+pub failed : (a : Answer) → true ≡ is_err a → number a ≢ 0
+failed (Ok x) e = absurd (true≢false e)
+failed (Err r) e = refused refl
 
 -- an encoded stripe obeys the rule
 pub obeys_told : (sh : Shape) (s : List ℕ) (a : Answer) (x : List ℕ) → Encode sh s a x → Good sh → length s ≡ size sh → Obeys sh x
@@ -59,10 +70,6 @@ agrees_told {s} {whole} h = record { same = λ d c t hd hc ht not_lost. sym (h (
     outside d c t hd ht n k (yes l) e = inl (omega arith)
     outside d c t hd ht n k (no g) (yes l) = inr (inl (omega arith))
     outside d c t hd ht n k (no g) (no f) = inr (inr (omega arith))
-
--- a list as long as its copy is its copy
-pub copied : {given before after : List ℕ} → length given ≡ length before → Spanned (λ t. get_or given t 0) before after 0 (length given) → after ≡ given
-copied {given} {before} {after} long h = ext_get_or 0 after given (omega (arith, h.long)) (λ i l. let e : 0 + i ≡ i = omega arith in rw e at (h.at i (omega (arith, h.long))))
 
 -- two columns spoilt in a copy: the others agree
 pub spoilt_told : (a b : List ℕ) {s whole : List ℕ} → a ≡ whole → ((i : ℕ) → (i < 42) ⊎ (63 ≤ i) → get_or b i 0 ≡ get_or a i 0)

@@ -1,28 +1,29 @@
-// The spring incident: clients are rebuilt one after the other in one workspace. Client A, with long symbols, is refused with 9;
-// then comes client B, with shorter ones, and gets what it gets alone. What is expected follows from the contracts, whatever the bytes are.
+// The spring incident: clients are rebuilt one after the other in one workspace. Client A, with long symbols, is
+// refused with 9; then comes client B, with shorter ones, and gets what it gets alone. What is expected follows from
+// the contracts, whatever the bytes are.
 #![tactic(auto)]
 
 ghost use Rattle.std.specs.Prelude.{◌≡◌, ◌⊎◌, ℕ, ◌≤◌, ◌<◌, length, get_or};
-ghost use Rattle.answer.specs.declared.Answer.{Answer};
+ghost use Rattle.answer.specs.Answers.{Answer};
 ghost use Rattle.shape.specs.Good.{Good, size, shape};
 ghost use Rattle.rule.specs.declared.Losses.TheVariants.{Two};
 ghost use Rattle.rule.specs.Rule.{Obeys};
 ghost use Rattle.rule.specs.Losses.{Agrees};
 ghost use Rattle.rebuild.specs.Rebuild.{Rebuild};
 
-use answer::Answer;
-use check::{expect, same};
+use answer::{Answer, number};
+use check::expect;
 use rule::Losses;
 use shape::Shape;
+use std::io;
 use trial::{pattern, zeros};
-use xor::copy;
 
 // A stripe of a client, encoded: it obeys the rule.
 fn encoded(shape: Shape, stripe: &mut [u8], seed: usize)
     ensures { Good shape → length stripe.old ≡ size shape → Obeys shape stripe.new }
 {
     pattern(stripe, seed);
-    encoding::encode(shape, stripe);
+    let _ = encoding::encode(shape, stripe);
 }
 
 // Puts other bytes from one place up to another; the rest is as it was.
@@ -30,51 +31,31 @@ fn spoil(s: &mut [u8], from: usize, to: usize)
     requires { to ≤ length s.old }
     ensures { (i : ℕ) → (i < from) ⊎ (to ≤ i) → get_or s.new i 0 ≡ get_or s.old i 0 }
 {
-    let mut i = from;
-    while i < to {
+    for i in from..to {
         s[i] = 238;
-        i += 1;
     }
 }
 
-// A byte as a number to print.
-fn wide(byte: u8) -> u64 {
-    byte as u64
+// A yes or no in words.
+fn in_words(yes: bool) -> &'static str {
+    if yes { "yes" } else { "no" }
 }
 
-// Ends the line after each 40 bytes.
-fn end_line(bytes: usize) {
-    if bytes % 40 == 0 {
-        io::write_all(1, b"\n");
+// Prints bytes as a line.
+fn line(rt: &impl Print, bytes: &[u8]) -> io::Result<()> {
+    for byte in bytes {
+        print!(rt; "{byte:02x}")?;
     }
+    println!(rt;)
 }
 
-// Writes a name and, from the next line on, the bytes.
-fn show(name: &[u8], bytes: &[u8]) {
-    io::write_all(1, name);
-    let mut i = 0;
-    while i < bytes.len() {
-        io::print_hex(1, wide(bytes[i]), 2);
-        i += 1;
-        end_line(i);
+// Prints the workspace after a client, 40 bytes a line.
+fn show(rt: &impl Print, work: &[u8]) -> io::Result<()> {
+    println!(rt; "the workspace after it:")?;
+    for bytes in work.chunks(40) {
+        line(rt, bytes)?;
     }
-}
-
-// Writes a name and the number of an answer.
-fn show_answer(name: &[u8], answer: Answer) {
-    io::write_all(1, name);
-    io::print_decimal(1, answer.number() as u64);
-    io::write_all(1, b"\n");
-}
-
-// Writes a question and yes or no.
-fn show_whether(question: &[u8], yes: bool) {
-    io::write_all(1, question);
-    if yes {
-        io::write_all(1, b"yes\n");
-    } else {
-        io::write_all(1, b"no\n");
-    }
+    Ok(())
 }
 
 // Puts the stripe as it is given into a buffer, and rebuilds it there.
@@ -82,25 +63,33 @@ fn rebuilt(shape: Shape, lost: Losses, given: &[u8], stripe: &mut [u8], work: &m
     requires { length given.now ≡ length stripe.old }
     ensures { Rebuild shape lost given.now (length work.old) result stripe.new work.new }
 {
-    copy(given, stripe, 0);
+    stripe.copy_from_slice(given);
     rebuild::rebuild(shape, lost, stripe, work)
 }
 
 // Where A is refused its stripe is as it was given, and the workspace is all zero.
-fn refused(shape: Shape, lost: Losses, given: &[u8], stripe: &mut [u8], work: &mut [u8])
+fn refused(
+    rt: &impl Print,
+    shape: Shape,
+    lost: Losses,
+    given: &[u8],
+    stripe: &mut [u8],
+    work: &mut [u8],
+) -> io::Result<()>
     requires { length given.now ≡ length stripe.old }
 {
     let answer = rebuilt(shape, lost, given, stripe, work);
-    show_answer(
-        b"A, column 4 lost and a byte of column 5 altered: answer ",
-        answer,
-    );
-    if answer.number() != 0 {
-        expect(same(stripe, given));
+    println!(rt;
+        "A, column 4 lost and a byte of column 5 altered: answer {}",
+        number(answer)
+    )?;
+    let kept = *stripe == *given;
+    if answer.is_err() {
+        expect(kept);
     }
-    show_whether(b"its stripe is as it was given: ", same(stripe, given));
+    println!(rt; "its stripe is as it was given: {}", in_words(kept))?;
     expect(zeros(work));
-    show(b"the workspace after it:\n", work);
+    show(rt, work)
 }
 
 // Column 4 of A's stripe is lost, and a byte of column 5 altered.
@@ -108,21 +97,22 @@ fn damage(given: &mut [u8])
     requires { length given.old ≡ 1080 }
 {
     spoil(given, 480, 600);
-    given[700] = given[700] ^ 1;
+    given[700] ^= 1;
 }
 
 // Client A: its stripe encoded and damaged.
-fn client_a(given: &mut [u8], stripe: &mut [u8], work: &mut [u8])
+fn client_a(rt: &impl Print, given: &mut [u8], stripe: &mut [u8], work: &mut [u8]) -> io::Result<()>
     requires { (length given.old ≡ 1080) × (length stripe.old ≡ 1080) }
 {
     let shape = Shape { m: 3, n: 9, w: 40 };
     encoded(shape, given, 1);
     damage(given);
-    refused(shape, Losses::One(4), given, stripe, work);
+    refused(rt, shape, Losses::One(4), given, stripe, work)
 }
 
 // B in A's workspace comes to what B comes to in one of its own.
 fn as_alone(
+    rt: &impl Print,
     shape: Shape,
     lost: Losses,
     given: &[u8],
@@ -130,20 +120,20 @@ fn as_alone(
     own: &mut [u8],
     work: &mut [u8],
     fresh: &mut [u8],
-)
+) -> io::Result<()>
     requires { (length given.now ≡ length stripe.old) × (length given.now ≡ length own.old) × (length work.old ≡ length fresh.old) }
     ensures { (a : Answer) × Rebuild shape lost given.now (length work.old) a stripe.new work.new }
 {
     let answer = rebuilt(shape, lost, given, stripe, work);
     let alone = rebuilt(shape, lost, given, own, fresh);
-    show_answer(
-        b"B, columns 2 and 6 lost, in the same workspace: answer ",
-        answer,
-    );
-    show_answer(b"B alone: answer ", alone);
-    expect(answer.number() == alone.number());
-    expect(same(stripe, own));
+    expect(answer == alone);
+    expect(*stripe == *own);
     expect(zeros(work));
+    println!(rt;
+        "B, columns 2 and 6 lost, in the same workspace: answer {}\nB alone: answer {}",
+        number(answer),
+        number(alone)
+    )
 }
 
 // Columns 2 and 6 of B's stripe are lost.
@@ -151,61 +141,72 @@ fn lose(whole: &[u8], given: &mut [u8])
     requires { (length whole.now ≡ 189) × (length given.old ≡ 189) }
     ensures { Agrees (shape 3 9 7) (Two 2 6) given.new whole.now }
 {
-    copy(whole, given, 0);
+    given.copy_from_slice(whole);
     spoil(given, 42, 63);
     spoil(given, 126, 147);
 }
 
 // Client B: its stripe encoded, two columns of it lost.
 fn client_b(
+    rt: &impl Print,
     whole: &mut [u8],
     given: &mut [u8],
     stripe: &mut [u8],
     own: &mut [u8],
     work: &mut [u8],
     fresh: &mut [u8],
-)
+) -> io::Result<()>
     requires { (length whole.old ≡ 189) × (length given.old ≡ 189) × (length stripe.old ≡ 189) × (length own.old ≡ 189) × (length work.old ≡ 240) × (length fresh.old ≡ 240) }
 {
     let shape = Shape { m: 3, n: 9, w: 7 };
     encoded(shape, whole, 3);
     lose(whole, given);
-    as_alone(shape, Losses::Two(2, 6), given, stripe, own, work, fresh);
-    expect(same(stripe, whole));
-    show_whether(b"both stripes are as encoded: ", same(stripe, whole));
-    show(b"the workspace after it:\n", work);
+    as_alone(
+        rt,
+        shape,
+        Losses::Two(2, 6),
+        given,
+        stripe,
+        own,
+        work,
+        fresh,
+    )?;
+    let same = *stripe == *whole;
+    expect(same);
+    println!(rt; "both stripes are as encoded: {}", in_words(same))?;
+    show(rt, work)
 }
 
 // Lends A its buffers.
-fn first_client(work: &mut [u8]) {
-    let mut first = io::buffer();
-    let mut second = io::buffer();
-    client_a(&mut first[..1080], &mut second[..1080], work);
+fn first_client(rt: &(impl Print + AllocGlobal), work: &mut [u8]) -> io::Result<()> {
+    let mut given = vec![in rt.alloc(); 0; 1080]?;
+    let mut stripe = vec![in rt.alloc(); 0; 1080]?;
+    client_a(rt, &mut given, &mut stripe, work)
 }
 
 // Lends B its buffers, and a workspace to be alone in.
-fn second_client(work: &mut [u8])
+fn second_client(rt: &(impl Print + AllocGlobal), work: &mut [u8]) -> io::Result<()>
     requires { length work.old ≡ 240 }
 {
-    let mut first = io::buffer();
-    let mut second = io::buffer();
-    let mut third = io::buffer();
-    let mut fourth = io::buffer();
-    let mut fifth = io::buffer();
+    let mut whole = vec![in rt.alloc(); 0; 189]?;
+    let mut given = vec![in rt.alloc(); 0; 189]?;
+    let mut stripe = vec![in rt.alloc(); 0; 189]?;
+    let mut own = vec![in rt.alloc(); 0; 189]?;
+    let mut fresh = vec![in rt.alloc(); 0; 240]?;
     client_b(
-        &mut first[..189],
-        &mut second[..189],
-        &mut third[..189],
-        &mut fourth[..189],
+        rt,
+        &mut whole,
+        &mut given,
+        &mut stripe,
+        &mut own,
         work,
-        &mut fifth[..240],
-    );
+        &mut fresh,
+    )
 }
 
-fn main() {
-    let mut shared = io::buffer();
-    let work = &mut shared[..240];
-    pattern(work, 6);
-    first_client(work);
-    second_client(work);
+fn main(rt: HostRuntime) -> io::Result<()> {
+    let mut work = vec![in rt.alloc(); 0; 240]?;
+    pattern(&mut work, 6);
+    first_client(&rt, &mut work)?;
+    second_client(&rt, &mut work)
 }

@@ -45,22 +45,22 @@ fn order(shape: Shape, a: usize, b: usize) -> Gone
     if leads(shape.n, a, b) {
         let walk = upward(shape.n, a, b);
         return Gone {
-            shape: shape,
+            shape,
             first: a,
             second: b,
-            walk: walk,
+            walk,
             one: 0,
-            two: two,
+            two,
         };
     }
     let walk = upward(shape.n, b, a);
     Gone {
-        shape: shape,
+        shape,
         first: b,
         second: a,
-        walk: walk,
+        walk,
         one: 0,
-        two: two,
+        two,
     }
 }
 
@@ -74,20 +74,20 @@ pub fn read(shape: Shape, lost: Losses) -> Gone
     let two = shape.column_length();
     match lost {
         Losses::None => Gone {
-            shape: shape,
+            shape,
             first: n,
             second: n,
             walk: m,
             one: 0,
-            two: two,
+            two,
         },
         Losses::One(a) => Gone {
-            shape: shape,
+            shape,
             first: a,
             second: n,
             walk: m,
             one: 0,
-            two: two,
+            two,
         },
         Losses::Two(a, b) => order(shape, a, b),
     }

@@ -21,11 +21,9 @@ fn stage_pair(s: &[u8], out: &mut [u8], table: &[u16; 32], x: Gone)
     requires { (Stageable x s.now out.old) × (Table x.shape table.now) × (x.walk < x.shape.m) }
     ensures { (length out.new ≡ length out.old) × ((v : ℕ → ℕ → ℕ → ℕ) → Solved x s.now v → Staged x v out.new) }
 {
-    let mut left = x.walk;
-    while 0 < left {
-        left -= 1;
-        solve_first(s, out, table, x, left);
-        solve_second(s, out, table, x, left);
+    for d in (0..x.walk).rev() {
+        solve_first(s, out, table, x, d);
+        solve_second(s, out, table, x, d);
     }
 }
 

@@ -1,5 +1,6 @@
 -- Laws of the stock shapes: each is good, by one test computed over the table; one answer, and some.
-use mathlib.Core.Path.{◌≡◌, refl, sym, ◌∙◌}
+use mathlib.Core.Path.{◌≡◌, refl, sym, ap, ◌∙◌}
+use mathlib.Core.Logic.{inl, inr}
 use mathlib.Core.Bool.{Bool, true, ◌&&◌, and-eq-true_iff}
 use mathlib.Core.List.{List, [], ◌∷◌}
 use Prim.Native.Nat.{ℕ, zero, suc, ◌≤◌, ◌<◌}
@@ -9,12 +10,18 @@ use lib.ListN.{length, get_or}
 use lib.Dec.{leb}
 use borrow.Author.Tests.{leb-true}
 use Rattle.shape.specs.declared.Shape.{Shape}
-use Rattle.stock.specs.declared.Stocked.{Stocked}
-use Rattle.answer.specs.declared.Answer.TheVariants.{NoSuchStock}
+use denote.Ref.{Bor}
+use Rattle.std.specs.Prelude.{Option, None, Some, Result, Ok, Err}
+use Rattle.std.specs.Option.{option_copied, ok_or}
+use Rattle.std.specs.Slice.{IsItemAt}
+use Rattle.answer.specs.declared.Refusal.{Refusal}
+use Rattle.answer.specs.declared.Refusal.TheVariants.{NoSuchStock}
 use Rattle.shape.specs.Good.{Range, Within, rows, columns, symbol, most, size, Good}
-use Rattle.answer.specs.Answers.{number, Rises}
-use Rattle.stock.specs.Stock.{stock, stock_table, zero_shape, Stock}
-use Rattle.answer.proofs.OutcomeLaws.{call_one, call_some}
+use Rattle.answer.specs.Answers.{Answer, refusal_number, number, Rises}
+use Rattle.answer.specs.Outcome.{Outcome}
+use Rattle.stock.specs.Stock.{stock, stock_table, zero_shape, shape_given, Stock}
+use Rattle.answer.proofs.OutcomeLaws.{outcome_one, outcome_refused, call_some}
+use Rattle.stock.proofs.ResultLaws.{result_apart}
 
 -- ---- good: the test, over the table, and what it tells of each entry
 
@@ -60,12 +67,24 @@ pub stock_rises : (i : ℕ) → Rises 0 (stock_table i)
 unfolding stock_table
 stock_rises i = omega arith
 
-pub stock_one : (i : ℕ) (a b : Stocked) → Stock i a → Stock i b → a ≡ b
+pub stock_one : (i : ℕ) (a b : Result Shape Refusal) → Stock i a → Stock i b → a ≡ b
 stock_one j a b p q =
-    let (e, f) = call_one (λ h x y u v. u ∙ sym v) a.answer b.answer a.shape b.shape p q in λ i. record { answer = e i; shape = f i }
+    let (e, f) = outcome_one (λ h x y u v. u ∙ sym v) (number a) (number b) (shape_given a) (shape_given b) p q in
+    result_apart a b e (λ x y u v. sym (ap shape_given u) ∙ f ∙ ap shape_given v)
 
-pub stock_some : (i : ℕ) → (r : Stocked) × Stock i r
-unfolding stock_table number
-stock_some i =
-    let (a, x, h) = call_some {T = stock_table i} zero_shape _ (NoSuchStock, refl, dec_lt 9 i, λ p. tt) (λ h. (_, refl)) in
-    (record { answer = a; shape = x }, h)
+pub stock_some : (i : ℕ) → (r : Result Shape Refusal) × Stock i r
+unfolding stock_table number refusal_number
+stock_some i = let (a, x, h) = call_some {T = stock_table i} zero_shape Gives ((Err NoSuchStock), refl, dec_lt 9 i, λ p. tt) (λ h. (_, refl)) in at a x h
+  where
+    Gives : Shape → Type 0
+    Gives x = x ≡ get_or stock i zero_shape
+
+    at : (a : Answer) (x : Shape) → Outcome (stock_table i) zero_shape Gives (number a) x → (r : Result Shape Refusal) × Stock i r
+    at (Ok u) x h = (Ok x, h)
+    at (Err r) x h = (Err r, outcome_refused (Unit {0}) Shape r h.answer)
+
+-- what is looked up in the table is the shape that is given
+pub stock_looked : (i : ℕ) (r : Option (Bor Shape)) → IsItemAt stock i r → Stock i (ok_or (option_copied r) NoSuchStock)
+unfolding number refusal_number stock_table stock
+stock_looked i None h = record { answer = inl (omega (arith, h.3), refl); refused = λ ne. refl; done = λ z. absurd (omega arith) }
+stock_looked i (Some x) h = record { answer = inr ((λ l. omega (arith, h.3.0)), refl); refused = λ ne. absurd (ne refl); done = λ z. h.4 (omega arith) zero_shape }

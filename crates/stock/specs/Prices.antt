@@ -1,7 +1,8 @@
 -- PRICE LIST (document 01): "for a shape, in symbol XORs". Definitions only.
-use Rattle.std.specs.Prelude.{◌≡◌, ℕ, ◌-◌, ◌*◌}
+use Rattle.std.specs.Prelude.{◌≡◌, ℕ, ◌-◌, ◌*◌, Result, Ok, Err}
 use Rattle.shape.specs.declared.Shape.{Shape}
 use Rattle.stock.specs.declared.Priced.{Priced}
+use Rattle.answer.specs.declared.Refusal.{Refusal}
 use Rattle.answer.specs.Answers.{number}
 use Rattle.shape.specs.Refusals.{shape_table}
 use Rattle.answer.specs.Outcome.{Outcome}
@@ -25,9 +26,11 @@ symbols_read sh = 2 * sh.m * (sh.m - 1) - 1
 abbrev pub Four : Type 0
 Four = ℕ × ℕ × ℕ × ℕ
 
-abbrev pub figures : Priced → Four
-figures r = (r.encode, r.one, r.two, r.reads)
+-- the figures of a price list; those of a refused call are 0
+abbrev pub figures : Result Priced Refusal → Four
+figures (Ok list) = (list.encode, list.one, list.two, list.reads)
+figures (Err refusal) = (0, 0, 0, 0)
 
-abbrev pub Prices : Shape → Priced → Type 0
+abbrev pub Prices : Shape → Result Priced Refusal → Type 0
 Prices sh r =
-    Outcome (shape_table sh) (0, 0, 0, 0) (λ (x : Four). x ≡ (encode_price sh, one_price sh, two_price sh, symbols_read sh)) (number r.answer) (figures r)
+    Outcome (shape_table sh) (0, 0, 0, 0) (λ (x : Four). x ≡ (encode_price sh, one_price sh, two_price sh, symbols_read sh)) (number r) (figures r)

@@ -1,8 +1,8 @@
 -- STOCK SHAPES (document 01). Definitions only.
-use Rattle.std.specs.Prelude.{◌≡◌, List, [], ◌∷◌, ℕ, ◌<◌, get_or}
+use Rattle.std.specs.Prelude.{◌≡◌, List, [], ◌∷◌, ℕ, ◌<◌, get_or, Result, Ok, Err}
 use Rattle.shape.specs.declared.Shape.{Shape}
-use Rattle.stock.specs.declared.Stocked.{Stocked}
 use Rattle.shape.specs.Good.{shape}
+use Rattle.answer.specs.declared.Refusal.{Refusal}
 use Rattle.answer.specs.Answers.{number, Table}
 use Rattle.answer.specs.Outcome.{Outcome}
 
@@ -19,5 +19,10 @@ stock_table i = (10, 9 < i) ∷ []
 abbrev pub zero_shape : Shape
 zero_shape = shape 0 0 0
 
-abbrev pub Stock : ℕ → Stocked → Type 0
-Stock i r = Outcome (stock_table i) zero_shape (λ (x : Shape). x ≡ get_or stock i zero_shape) (number r.answer) r.shape
+-- the shape that is given; its numbers are 0 where the call is refused
+abbrev pub shape_given : Result Shape Refusal → Shape
+shape_given (Ok sh) = sh
+shape_given (Err refusal) = zero_shape
+
+abbrev pub Stock : ℕ → Result Shape Refusal → Type 0
+Stock i r = Outcome (stock_table i) zero_shape (λ (x : Shape). x ≡ get_or stock i zero_shape) (number r) (shape_given r)

@@ -1,12 +1,8 @@
 // The stock shapes, numbers 0 to 9.
 ghost use Rattle.stock.specs.Stock.{Stock};
 
-use crate::Stocked;
-use answer::Answer;
+use answer::Refusal;
 use shape::Shape;
-
-// The highest number of a stock shape.
-const LAST: usize = 9;
 
 // The stock shapes by their numbers.
 const SHAPES: [Shape; 10] = [
@@ -54,18 +50,9 @@ const SHAPES: [Shape; 10] = [
     },
 ];
 
-// The stock shape of a number; for a number over 9, NoSuchStock and a shape of zeros.
-pub fn stock(number: usize) -> Stocked
+// The stock shape of a number, or NoSuchStock for a number over 9.
+pub fn stock(number: usize) -> Result<Shape, Refusal>
     ensures { Stock number result }
 {
-    if LAST < number {
-        return Stocked {
-            answer: Answer::NoSuchStock,
-            shape: Shape { m: 0, n: 0, w: 0 },
-        };
-    }
-    Stocked {
-        answer: Answer::Done,
-        shape: SHAPES[number],
-    }
+    SHAPES.get(number).copied().ok_or(Refusal::NoSuchStock)
 }

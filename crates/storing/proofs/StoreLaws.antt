@@ -4,7 +4,7 @@ use mathlib.Core.List.{List}
 use Prim.Native.Nat.{ℕ}
 use native.Mathlib.Omega.{arith}
 use Rattle.shape.specs.declared.Shape.{Shape}
-use Rattle.answer.specs.declared.Answer.{Answer}
+use Rattle.answer.specs.Answers.{Answer}
 use Rattle.shape.specs.Place.{height}
 use Rattle.answer.specs.Answers.{Rises}
 use Rattle.shape.specs.Refusals.{shape_table, stripe_table}

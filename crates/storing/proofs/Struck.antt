@@ -11,9 +11,10 @@ use lib.Dec.{eqb}
 use borrow.Author.Tests.{eq-eqb, ne_eqb}
 use mathlib.Core.Logic.Dec
 use Rattle.shape.specs.declared.Shape.{Shape}
-use Rattle.answer.specs.declared.Answer.TheVariants.{NoSuchPlace, BadBuffer}
+use Rattle.std.specs.Prelude.{Err}
+use Rattle.answer.specs.declared.Refusal.TheVariants.{NoSuchPlace, BadBuffer}
 use Rattle.shape.specs.Place.{byte}
-use Rattle.answer.specs.Answers.{number}
+use Rattle.answer.specs.Answers.{refusal_number, number}
 use Rattle.answer.proofs.OutcomeLaws.{Ready, either?}
 use Rattle.rule.specs.Rule.{Grid}
 
@@ -47,8 +48,8 @@ struck_same sh x y k c d j t here there = at (ℕ_discrete d k) (ℕ_discrete j 
 -- the rows of their tables behind the stripe's, over how many rows may be written
 module _ (n rows w c r : ℕ) (x : List ℕ) where
   pub struck_ready : Ready ((6, (n ≤ c) ⊎ (rows ≤ r)) ∷ (8, length x ≢ w) ∷ [])
-  unfolding number
-  struck_ready = (NoSuchPlace, refl, either? (dec_le n c) (dec_le rows r), λ p. (BadBuffer, refl, Dec.not (ℕ_discrete (length x) w), λ q. tt))
+  unfolding number refusal_number
+  struck_ready = ((Err NoSuchPlace), refl, either? (dec_le n c) (dec_le rows r), λ p. ((Err BadBuffer), refl, Dec.not (ℕ_discrete (length x) w), λ q. tt))
 
   pub struck_lt : ¬ ((n ≤ c) ⊎ (rows ≤ r)) → (c < n) × (r < rows)
   struck_lt h = ((Dec.not-not (dec_lt c n)).0 (λ z. h (inl (omega arith))), (Dec.not-not (dec_lt r rows)).0 (λ z. h (inr (omega arith))))

@@ -1,7 +1,7 @@
 -- RAW STORE (document 01): row r of column c of the stripe s becomes the symbol x; s' is the stripe as left. Definitions only.
 use Rattle.std.specs.Prelude.{◌≡◌, ◌≢◌, ◌⊎◌, List, [], ◌∷◌, ◌++◌, ℕ, ◌≤◌, ◌<◌, length, get_or}
 use Rattle.shape.specs.declared.Shape.{Shape}
-use Rattle.answer.specs.declared.Answer.{Answer}
+use Rattle.answer.specs.Answers.{Answer}
 use Rattle.shape.specs.Place.{height, byte}
 use Rattle.answer.specs.Answers.{number, Table}
 use Rattle.shape.specs.Refusals.{stripe_table}

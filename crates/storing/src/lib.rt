@@ -8,20 +8,22 @@ ghost use Rattle.shape.specs.Good.{Good, size};
 ghost use Rattle.storing.specs.Set.{Set};
 ghost use Rattle.storing.specs.Store.{RawStore};
 
-use answer::Answer;
+use answer::{Answer, Refusal};
+use block::LONGEST;
 use shape::Shape;
 use xor::copy;
 
 // Stores the first `whole` bytes of a symbol, a number of whole blocks, in the stripe from `at` on.
+// (A `while`, as a `for` over the blocks would count them besides the bytes.)
 fn store_blocks(symbol: &[u8], stripe: &mut [u8], at: usize, whole: usize)
     requires { (whole ≤ length symbol.now) × (at + whole ≤ length stripe.old) × (whole % 128 ≡ 0) }
     ensures { Spanned (λ t. get_or symbol.now t 0) stripe.old stripe.new at whole }
 {
     let mut t = 0;
     while t < whole {
-        let acc = block::get(symbol, t, 128);
-        block::put(&acc, stripe, at + t, 128);
-        t += 128;
+        let acc: [u8; LONGEST] = block::get(symbol, t);
+        block::put(&acc, stripe, at + t);
+        t += LONGEST;
     }
 }
 
@@ -32,7 +34,7 @@ pub fn store(shape: Shape, stripe: &mut [u8], height: usize, column: usize, symb
 {
     let at = shape.place(height, column);
     let len = symbol.len();
-    let whole = len - len % 128;
+    let whole = len - len % LONGEST;
     store_blocks(symbol, stripe, at, whole);
     if whole < len {
         copy(&symbol[whole..], stripe, at + whole);
@@ -49,20 +51,14 @@ pub fn raw_store(
 ) -> Answer
     ensures { RawStore shape stripe.old column row symbol.now result stripe.new }
 {
-    match shape.stripe_refusal(stripe) {
-        Answer::Done => {}
-        answer => return answer,
-    }
-    if shape.n <= column {
-        return Answer::NoSuchPlace;
-    }
-    if shape.m <= row {
-        return Answer::NoSuchPlace;
+    shape.accept_stripe(stripe)?;
+    if shape.n <= column || shape.m <= row {
+        return Err(Refusal::NoSuchPlace);
     }
     if symbol.len() != shape.w {
-        return Answer::BadBuffer;
+        return Err(Refusal::BadBuffer);
     }
     let height = shape.height(row);
     store(shape, stripe, height, column, symbol);
-    Answer::Done
+    Ok(())
 }

@@ -3,74 +3,81 @@
 #![tactic(auto)]
 
 ghost use Rattle.std.specs.Prelude.{◌≡◌, ◌+◌, ◌%◌, ◌≤◌, ◌<◌, length};
-ghost use Rattle.block.specs.Block.{longest, Block};
+ghost use Rattle.block.specs.Block.{Block};
 ghost use Rattle.summing.specs.Sums.{summed, Fits, Clear, Summed};
 
-// What a symbol is the sum of: of the symbol of the stripe at a, of the one at b, which is in the buffer if it was asked for, and of those at the
-// first count places of a list.
+use block::LONGEST;
+
+// Where a symbol starts: in the stripe, or in the buffer, because it was asked for.
+#[derive(Clone, Copy)]
+pub enum Lies {
+    Stripe(usize),
+    Buffer(usize),
+}
+
+// What a symbol is the sum of: of the symbol of the stripe at a, of the one that lies at b, and of those at the first
+// count places of a list.
 #[derive(Clone, Copy)]
 pub struct Sum {
     pub count: usize,
     pub a: usize,
-    pub asked: bool,
-    pub b: usize,
+    pub b: Lies,
 }
 
-// The sum x: len bytes from `from` on; whoever calls it stays within the slices and a block.
-pub fn sum_at<'a>(
+// The sum x: LEN bytes from `from` on; whoever calls it stays within the slices.
+#[inline(always)]
+pub fn sum_at<'a, const LEN: usize>(
     s: &'a [u8],
     out: &'a [u8],
     list: &[u16; 32],
     x: Sum,
     from: usize,
-    len: usize,
-) -> [u8; 128]
-    requires { (len ≤ longest) × (Fits s.now out.now list.now x (from + len)) }
-    ensures { Block (λ t. summed s.now out.now list.now x (from + t)) len result }
+) -> [u8; LEN]
+    requires { Fits s.now out.now list.now x (from + LEN) }
+    ensures { Block (λ t. summed s.now out.now list.now x (from + t)) LEN result }
 {
-    let t: &'a [u8] = if x.asked { out } else { s };
-    let mut acc = [0u8; 128];
-    block::both(&mut acc, s, x.a + from, t, x.b + from, len);
-    let mut i = 0;
-    while i < x.count {
+    let (t, b) = match x.b {
+        Lies::Stripe(b) => (s, b),
+        Lies::Buffer(b) => (out, b),
+    };
+    let mut acc = block::both(s, x.a + from, t, b + from);
+    for i in 0..x.count / 2 {
         block::pair(
             &mut acc,
             s,
-            list[i] as usize + from,
-            list[i + 1] as usize + from,
-            len,
+            list[2 * i] as usize + from,
+            list[2 * i + 1] as usize + from,
         );
-        i += 2;
     }
     acc
 }
 
-// Sets len bytes of the symbol at `at` of the buffer to the sum x, and gives len.
-fn sum_part(
+// Sets LEN bytes of the symbol at `at` of the buffer to the sum x, and gives LEN.
+fn sum_part<const LEN: usize>(
     s: &[u8],
     out: &mut [u8],
     list: &[u16; 32],
     x: Sum,
     at: usize,
     from: usize,
-    len: usize,
 ) -> usize
-    requires { (len ≤ longest) × (Fits s.now out.old list.now x (from + len)) × (at + (from + len) ≤ length out.old) }
-    ensures { (result ≡ len) × (Summed s.now list.now x at from (from + result) out.old out.new) }
+    requires { (Fits s.now out.old list.now x (from + LEN)) × (at + (from + LEN) ≤ length out.old) }
+    ensures { (result ≡ LEN) × (Summed s.now list.now x at from (from + result) out.old out.new) }
 {
-    let acc = sum_at(s, out, list, x, from, len);
-    block::put(&acc, out, at + from, len);
-    len
+    let acc: [u8; LEN] = sum_at(s, out, list, x, from);
+    block::put(&acc, out, at + from);
+    LEN
 }
 
-// Sets the first `whole` bytes of that symbol, a number of whole blocks.
+// Sets the first `whole` bytes of that symbol, a number of whole blocks. (Not `for`, which costs more instructions a
+// block.)
 fn sum_blocks(s: &[u8], out: &mut [u8], list: &[u16; 32], x: Sum, at: usize, whole: usize)
     requires { (Fits s.now out.old list.now x whole) × (at + whole ≤ length out.old) × (Clear x at whole) × (whole % 128 ≡ 0) }
     ensures { Summed s.now list.now x at 0 whole out.old out.new }
 {
     let mut from = 0;
     while from < whole {
-        from += sum_part(s, out, list, x, at, from, 128);
+        from += sum_part::<LONGEST>(s, out, list, x, at, from);
     }
 }
 
@@ -87,17 +94,14 @@ fn sum_some(
     requires { (Fits s.now out.old list.now x w) × (at + w ≤ length out.old) × (from < w) }
     ensures { (1 ≤ result) × (from + result ≤ w) × (Summed s.now list.now x at from (from + result) out.old out.new) }
 {
-    let left = w - from;
-    if left < 16 {
-        return sum_part(s, out, list, x, at, from, 1);
+    match w - from {
+        ..16 => sum_part::<1>(s, out, list, x, at, from),
+        16..64 => sum_part::<16>(s, out, list, x, at, from),
+        _ => sum_part::<64>(s, out, list, x, at, from),
     }
-    if left < 64 {
-        return sum_part(s, out, list, x, at, from, 16);
-    }
-    sum_part(s, out, list, x, at, from, 64)
 }
 
-// Sets the bytes of that symbol from `start` on.
+// Sets the bytes of that symbol from `start` on. (Not `for`: the step varies.)
 fn sum_tail(w: usize, s: &[u8], out: &mut [u8], list: &[u16; 32], x: Sum, at: usize, start: usize)
     requires { (Fits s.now out.old list.now x w) × (at + w ≤ length out.old) × (Clear x at w) × (start ≤ w) }
     ensures { Summed s.now list.now x at start w out.old out.new }
@@ -113,7 +117,7 @@ pub fn sum_symbol(w: usize, s: &[u8], out: &mut [u8], list: &[u16; 32], x: Sum, 
     requires { (Fits s.now out.old list.now x w) × (at + w ≤ length out.old) × (Clear x at w) }
     ensures { Summed s.now list.now x at 0 w out.old out.new }
 {
-    let whole = w - w % 128;
+    let whole = w - w % LONGEST;
     sum_blocks(s, out, list, x, at, whole);
     sum_tail(w, s, out, list, x, at, whole);
 }

@@ -1,1 +1,3 @@
 pub mod RoomLaws
+pub mod LittleLaws
+pub mod CallLaws

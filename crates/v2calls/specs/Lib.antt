@@ -1,4 +1,5 @@
 pub mod Little
+pub mod Calls
 pub mod Heads
 pub mod Room
 pub mod Told

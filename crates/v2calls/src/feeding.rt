@@ -3,7 +3,6 @@ ghost use Rattle.std.specs.Prelude.{◌≡◌, ◌+◌, ◌≤◌, ◌<◌, leng
 ghost use Rattle.v2calls.specs.Room.{Fed};
 
 use std::io::{Read, Stdin};
-use xor::copy;
 
 // The bytes of the input buffer that are still to be taken: from `at` up to `end`.
 #[derive(Clone, Copy)]
@@ -53,26 +52,20 @@ fn ready(stdin: Stdin, input: &mut [u8], feed: Feed) -> Feed
     refill(stdin, input)
 }
 
-// The lesser of two numbers.
-fn least(a: usize, b: usize) -> usize
-    ensures { (result ≤ a) × (result ≤ b) × (1 ≤ a → 1 ≤ b → 1 ≤ result) }
-{
-    if a < b { a } else { b }
-}
-
 // Copies bytes of the feed into `out` from `done` on, as many as there are and fit, and gives how many.
 fn hand(input: &[u8], feed: Feed, out: &mut [u8], done: usize) -> usize
     requires { (Fed input.now feed) × (feed.at < feed.end) × (done < length out.old) }
     ensures { (1 ≤ result) × (feed.at + result ≤ feed.end) × (done + result ≤ length out.new) }
 {
     let from = feed.at;
-    let count = least(feed.end - from, out.len() - done);
+    let count = (feed.end - from).min(out.len() - done);
     let to = from + count;
-    copy(&input[from..to], out, done);
+    out[done..done + count].copy_from_slice(&input[from..to]);
     count
 }
 
 // Fills `out` from the input; it brings fewer bytes only where the input ends.
+// The loop is a `while`: how many bytes each turn brings is the input's to say.
 pub(crate) fn fetch(stdin: Stdin, input: &mut [u8], start: Feed, out: &mut [u8]) -> Fetched
     requires { Fed input.old start }
     ensures { Fed input.new result.feed }
@@ -88,8 +81,5 @@ pub(crate) fn fetch(stdin: Stdin, input: &mut [u8], start: Feed, out: &mut [u8])
         feed = feed.after(count);
         done += count;
     }
-    Fetched {
-        feed: feed,
-        count: done,
-    }
+    Fetched { feed, count: done }
 }

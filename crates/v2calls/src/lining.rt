@@ -1,6 +1,7 @@
 // The lines of the program.
 ghost use Rattle.v2calls.specs.Room.{Room};
 
+use crate::call::Call;
 use crate::making::Told;
 use crate::printing::{decimal, hex, put, text};
 
@@ -23,11 +24,11 @@ fn buffer(out: &mut [u8], used: usize, bytes: &[u8], after: u8) -> usize
 }
 
 // The numbers of a line.
-pub(crate) fn numbers(out: &mut [u8], used: usize, call: usize, told: Told) -> usize
+pub(crate) fn numbers(out: &mut [u8], used: usize, call: Call, told: Told) -> usize
     requires { Room out.old used }
     ensures { Room out.new result }
 {
-    let mut at = number(out, used, call);
+    let mut at = number(out, used, call.number());
     at = number(out, at, told.answer);
     at = number(out, at, told.x1);
     at = number(out, at, told.x2);

@@ -3,6 +3,7 @@
 
 ghost use Rattle.std.specs.Prelude.{◌≡◌, length};
 
+mod call;
 mod feeding;
 mod heading;
 mod lining;

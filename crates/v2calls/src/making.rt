@@ -1,12 +1,21 @@
 // The calls: each made by its public function, its answer and its numbers told.
-ghost use Rattle.std.specs.Prelude.{◌≡◌, ◌≤◌, length};
-ghost use Rattle.locating.specs.Locate.{found};
-ghost use Rattle.v2calls.specs.Told.{plain, Checks, Locates, Rebuilds, PricesOf, StockOf, Makes, HandsOut, if_done as told_if_done};
+ghost use Rattle.std.specs.Prelude.{◌≡◌, length};
+ghost use Rattle.v2calls.specs.Told.{plain, Checks, Locates, Rebuilds, PricesOf, StockOf, Makes, HandsOut};
 
+use crate::call::Call;
 use crate::heading::Head;
-use answer::Answer;
-use locating::Damage;
+use answer::{Answer, number};
+use checking::{Checked, check};
+use encoding::encode;
+use filling::{choose, fill};
+use handing::column;
+use locating::locate;
+use rebuild::rebuild;
 use rule::named;
+use shape::Shape;
+use stock::{prices, stock};
+use storing::raw_store;
+use writing::small_write;
 
 // What a line tells of a call: its answer's number and the four numbers after it.
 #[derive(Clone, Copy)]
@@ -23,7 +32,7 @@ fn answered(answer: Answer) -> Told
     ensures { result ≡ plain answer }
 {
     Told {
-        answer: answer.number(),
+        answer: number(answer),
         x1: 0,
         x2: 0,
         x3: 0,
@@ -35,71 +44,50 @@ fn answered(answer: Answer) -> Told
 fn checked(head: Head, stripe: &[u8]) -> Told
     ensures { Checks head stripe.now result }
 {
-    let report = checking::check(head.shape, stripe);
-    let answer = report.answer;
+    let report = check(head.shape, stripe);
+    let (x1, x2) = match report {
+        Ok(Checked { broken, bits }) => (broken, bits),
+        Err(_) => (0, 0),
+    };
     Told {
-        answer: answer.number(),
-        x1: report.broken,
-        x2: report.bits,
+        answer: number(report),
+        x1,
+        x2,
         x3: 0,
         x4: 0,
     }
 }
 
-// What locate finds: 0 sound, 1 one column, 2 more.
-fn kind(damage: Damage) -> usize
-    ensures { result ≡ (found damage).0 }
-{
-    match damage {
-        Damage::Sound => 0,
-        Damage::Column(_) => 1,
-        Damage::Several => 2,
-    }
-}
-
-// The column that locate finds, or 0.
-fn place(damage: Damage) -> usize
-    ensures { result ≡ (found damage).1 }
-{
-    match damage {
-        Damage::Sound => 0,
-        Damage::Column(c) => c,
-        Damage::Several => 0,
-    }
-}
-
-// A locate, and what it finds.
+// A locate, and what it finds: 0 sound, 1 one column, 2 more, and the column.
 fn located(head: Head, stripe: &[u8]) -> Told
     ensures { Locates head stripe.now result }
 {
-    let report = locating::locate(head.shape, stripe);
-    let answer = report.answer;
-    let damage = report.damage;
+    let report = locate(head.shape, stripe);
+    let (x1, x2) = match report {
+        Ok(damage) => damage.numbers(),
+        Err(_) => (0, 0),
+    };
     Told {
-        answer: answer.number(),
-        x1: kind(damage),
-        x2: place(damage),
+        answer: number(report),
+        x1,
+        x2,
         x3: 0,
         x4: 0,
     }
-}
-
-// A count where the answer is 0, and 0 where it is not.
-fn if_done(answer: usize, count: usize) -> usize
-    ensures { result ≡ told_if_done answer count }
-{
-    if answer == 0 { count } else { 0 }
 }
 
 // A rebuild, and how many columns were lost where it was done.
 fn rebuilt(head: Head, stripe: &mut [u8], work: &mut [u8]) -> Told
     ensures { Rebuilds head stripe.old (length work.old) result stripe.new work.new }
 {
-    let answer = rebuild::rebuild(head.shape, named(head.a, head.b, head.c), stripe, work);
-    let number = answer.number();
+    let answer = rebuild(head.shape, named(head.a, head.b, head.c), stripe, work);
+    let x1 = match answer {
+        Ok(()) => head.a,
+        Err(_) => 0,
+    };
     Told {
-        answer: number,
-        x1: if_done(number, head.a),
+        answer: number(answer),
+        x1,
         x2: 0,
         x3: 0,
         x4: 0,
@@ -110,14 +98,17 @@ fn rebuilt(head: Head, stripe: &mut [u8], work: &mut [u8]) -> Told
 fn priced(head: Head) -> Told
     ensures { PricesOf head result }
 {
-    let list = stock::prices(head.shape);
-    let answer = list.answer;
+    let report = prices(head.shape);
+    let (x1, x2, x3, x4) = match report {
+        Ok(list) => (list.encode, list.one, list.two, list.reads),
+        Err(_) => (0, 0, 0, 0),
+    };
     Told {
-        answer: answer.number(),
-        x1: list.encode,
-        x2: list.one,
-        x3: list.two,
-        x4: list.reads,
+        answer: number(report),
+        x1,
+        x2,
+        x3,
+        x4,
     }
 }
 
@@ -125,36 +116,36 @@ fn priced(head: Head) -> Told
 fn stocked(head: Head) -> Told
     ensures { StockOf head result }
 {
-    let entry = stock::stock(head.a);
-    let answer = entry.answer;
-    let shape = entry.shape;
+    let report = stock(head.a);
+    let (x1, x2, x3) = match report {
+        Ok(Shape { m, n, w }) => (m, n, w),
+        Err(_) => (0, 0, 0),
+    };
     Told {
-        answer: answer.number(),
-        x1: shape.m,
-        x2: shape.n,
-        x3: shape.w,
+        answer: number(report),
+        x1,
+        x2,
+        x3,
         x4: 0,
     }
 }
 
-// Makes the call of a head that is admitted.
+// Makes the call of a head.
 pub(crate) fn make(head: Head, first: &mut [u8], second: &mut [u8]) -> Told
-    requires { (1 ≤ head.call) × (head.call ≤ 11) }
     ensures { Makes head first.old second.old result first.new second.new }
 {
     let shape = head.shape;
-    let call = head.call;
-    match call {
-        1 => answered(encoding::encode(shape, first)),
-        2 => checked(head, first),
-        3 => located(head, first),
-        4 => answered(writing::small_write(shape, first, head.a, head.b, second)),
-        5 => answered(storing::raw_store(shape, first, head.a, head.b, second)),
-        6 => rebuilt(head, first, second),
-        7 => answered(filling::fill(shape, first, named(head.a, head.b, head.c), head.d, second)),
-        10 => priced(head),
-        11 => stocked(head),
-        _ => answered(Answer::Done),
+    match head.call {
+        Call::Encode => answered(encode(shape, first)),
+        Call::Check => checked(head, first),
+        Call::Locate => located(head, first),
+        Call::SmallWrite => answered(small_write(shape, first, head.a, head.b, second)),
+        Call::RawStore => answered(raw_store(shape, first, head.a, head.b, second)),
+        Call::Rebuild => rebuilt(head, first, second),
+        Call::Fill => answered(fill(shape, first, named(head.a, head.b, head.c), head.d, second)),
+        Call::Choose | Call::Column => answered(Ok(())),
+        Call::Prices => priced(head),
+        Call::Stock => stocked(head),
     }
 }
 
@@ -162,16 +153,15 @@ pub(crate) fn make(head: Head, first: &mut [u8], second: &mut [u8]) -> Told
 pub(crate) fn part<'a>(head: Head, first: &'a [u8], second: &'a [u8]) -> &'a [u8]
     ensures { HandsOut head first.entry second.entry result }
 {
-    let call = head.call;
-    match call {
-        8 => filling::choose(
+    match head.call {
+        Call::Choose => choose(
             head.shape,
             first,
             named(head.a, head.b, head.c),
             head.d,
             second,
         ),
-        9 => handing::column(head.shape, first, head.a),
+        Call::Column => column(head.shape, first, head.a),
         _ => &first[0..0],
     }
 }

@@ -42,10 +42,8 @@ pub(crate) fn text(out: &mut [u8], used: usize, bytes: &[u8]) -> usize
     ensures { Room out.new result }
 {
     let mut at = used;
-    let mut i = 0;
-    while i < bytes.len() {
-        at = put(out, at, bytes[i]);
-        i += 1;
+    for byte in bytes {
+        at = put(out, at, *byte);
     }
     at
 }
@@ -92,10 +90,8 @@ pub(crate) fn hex(out: &mut [u8], used: usize, bytes: &[u8]) -> usize
         return put(out, used, b'-');
     }
     let mut at = used;
-    let mut i = 0;
-    while i < bytes.len() {
-        at = pair(out, at, bytes[i]);
-        i += 1;
+    for byte in bytes {
+        at = pair(out, at, *byte);
     }
     at
 }

@@ -1,5 +1,5 @@
 // The loop over the calls of the input.
-ghost use Rattle.std.specs.Prelude.{◌≡◌, ◌≤◌, length};
+ghost use Rattle.std.specs.Prelude.{◌≡◌, length};
 ghost use Rattle.v2calls.specs.Heads.{Admitted};
 ghost use Rattle.v2calls.specs.Room.{Room, Fed, Steady};
 
@@ -24,7 +24,7 @@ fn stopped(out: &mut [u8], feed: Feed, used: usize) -> State
     ensures { (result.feed.end ≡ feed.end) × (Room out.new result.used) }
 {
     State {
-        feed: feed,
+        feed,
         used: bad(out, used),
         goes: false,
     }
@@ -32,7 +32,7 @@ fn stopped(out: &mut [u8], feed: Feed, used: usize) -> State
 
 // Makes a call on its buffers, and puts its line.
 fn answer(out: &mut [u8], used: usize, head: Head, first: &mut [u8], second: &mut [u8]) -> usize
-    requires { (Room out.old used) × (1 ≤ head.call) × (head.call ≤ 11) }
+    requires { Room out.old used }
     ensures { Room out.new result }
 {
     let told = make(head, first, second);
@@ -51,7 +51,7 @@ fn take(
     out: &mut [u8],
     used: usize,
 ) -> State
-    requires { (Fed input.old feed) × (Room out.old used) × (1 ≤ head.call) × (head.call ≤ 11) }
+    requires { (Fed input.old feed) × (Room out.old used) }
     ensures { Steady input.new out.new result }
 {
     let one = fetch(stdin, input, feed, first);
@@ -118,22 +118,24 @@ fn serve(
     let feed = fetched.feed;
     if fetched.count == 0 {
         return State {
-            feed: feed,
-            used: used,
+            feed,
+            used,
             goes: false,
         };
     }
     if fetched.count < 65 {
         return stopped(out, feed, used);
     }
-    let head = spelled(&bytes);
+    let Some(head) = spelled(&bytes) else {
+        return stopped(out, feed, used);
+    };
     if !admitted(head) {
         return stopped(out, feed, used);
     }
     serve_head(stdin, input, feed, head, first, second, out, used)
 }
 
-// Serves every call of the input. The loop counts its turns down from a number that no run uses up.
+// Serves every call of the input; no run uses up the turns of the loop.
 pub(crate) fn serve_all(
     stdin: Stdin,
     input: &mut [u8],
@@ -148,10 +150,11 @@ pub(crate) fn serve_all(
         used: 0,
         goes: true,
     };
-    let mut turns = u64::MAX;
-    while turns > 0 && state.goes {
+    for _ in 0..u64::MAX {
+        if !state.goes {
+            break;
+        }
         state = serve(stdin, input, first, second, out, state);
-        turns -= 1;
     }
     let used = state.used;
     flush(out, used);

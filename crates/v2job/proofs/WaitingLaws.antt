@@ -1,6 +1,6 @@
 -- Laws of the buffers where bytes wait. To cite: lines_added, a line put after those that wait; kept_all and kept_front, the bytes that wait still wait; shows_collects.
 use mathlib.Core.Path.{◌≡◌, sym, ap, ◌∙◌}
-use mathlib.Core.Bool.{Bool, true, false}
+use Rattle.std.specs.Prelude.{Option, None, Some}
 use mathlib.Core.List.{List, ◌++◌}
 use Prim.Native.Nat.{ℕ, ◌+◌, ◌-◌, ◌≤◌}
 use native.Mathlib.Nat.{le_refl}
@@ -32,6 +32,6 @@ pub kept_front : (start end len more : ℕ) (s s₁ part : List ℕ) → len ≡
 kept_front start end len more s s₁ part e fit moved = rw (sym e) (take-take len (len + more - 0) (put_mid len (length s₁ - len) s₁ part) (omega arith) ∙ take_put len (length s₁ - len) s₁ part fit ∙ moved)
 
 -- lines wait inside their buffer, whether one was added or not
-pub shows_collects : (shown : Bool) (l : Line) (f : Shelf) (s : List ℕ) (f' : Shelf) (s' : List ℕ) → Shows shown l f s f' s' → Collects f (length s) → Collects f' (length s')
-shows_collects true l f s f' s' h c = h.collects
-shows_collects false l f s f' s' h c = rw h.0 (rw h.1 c)
+pub shows_collects : (line : Option Line) (f : Shelf) (s : List ℕ) (f' : Shelf) (s' : List ℕ) → Shows line f s f' s' → Collects f (length s) → Collects f' (length s')
+shows_collects (Some l) f s f' s' h c = h.collects
+shows_collects None f s f' s' h c = rw h.0 (rw h.1 c)

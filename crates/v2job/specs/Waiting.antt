@@ -1,5 +1,5 @@
 -- WHERE BYTES WAIT in the program's two buffers: input that was read and not yet taken, lines that were made and not yet written. Definitions only.
-use Rattle.std.specs.Prelude.{◌≡◌, ◌⊎◌, Bool, true, false, not, ◌&&◌, List, ◌++◌, ℕ, ◌+◌, ◌-◌, ◌≤◌, length, take, drop}
+use Rattle.std.specs.Prelude.{◌≡◌, ◌⊎◌, true, not, ◌&&◌, Option, None, Some, List, ◌++◌, ℕ, ◌+◌, ◌-◌, ◌≤◌, length, take, drop}
 use Rattle.line.specs.declared.Line.{Line}
 use Rattle.job.specs.declared.Turn.{Turn}
 use Rattle.line.specs.Printed.{text, longest_line}
@@ -45,10 +45,10 @@ pub record Added (l : Line) (f : Shelf) (s : List ℕ) (f' : Shelf) (s' : List �
   pub since : (from ≡ f.filled) ⊎ (from ≡ 0)
   pub lines : take f'.filled s' ≡ take from s ++ text l
 
--- a line that is not shown leaves everything as it was
-abbrev pub Shows : Bool → Line → Shelf → List ℕ → Shelf → List ℕ → Type 0
-Shows true l f s f' s' = Added l f s f' s'
-Shows false l f s f' s' = (f' ≡ f) × (s' ≡ s)
+-- a line is added; without one everything stays as it was
+abbrev pub Shows : Option Line → Shelf → List ℕ → Shelf → List ℕ → Type 0
+Shows (Some l) f s f' s' = Added l f s f' s'
+Shows None f s f' s' = (f' ≡ f) × (s' ≡ s)
 
 -- all that waits is inside its buffer
 pub record Goes (r : Run) (input output : ℕ) : Type 0 where
@@ -66,5 +66,5 @@ pub record Turned (run : Run) (input output stripe : List ℕ) (room : ℕ) (r :
   pub start : r.feed.start ≡ fed.start + step.taken
   pub end : r.feed.end ≡ fed.end
   pub more : r.feed.open ≡ fed.open
-  pub shows : Shows step.shown step.line run.shelf output r.shelf output'
+  pub shows : Shows step.line run.shelf output r.shelf output'
   pub goes_on : r.running ≡ not step.stops && r.shelf.open

@@ -1,13 +1,12 @@
-// The job program: records from standard input, lines to standard output. The step is `job`'s and the line's text `line`'s; here is only where bytes wait.
+// The job program: records from standard input, lines to standard output. The step is `job`'s and the line's text
+// `line`'s; here is only where bytes wait.
 #![tactic(auto)]
 
-ghost use Rattle.std.specs.Prelude.{◌≡◌, ℕ, ◌-◌, ◌≤◌, length, take, drop};
-ghost use Rattle.kinds.specs.declared.Held.TheVariants.{None};
+ghost use Rattle.std.specs.Prelude.{◌≡◌, ℕ, ◌-◌, ◌≤◌, length, take, drop, None};
 ghost use Rattle.line.specs.Printed.{longest_line};
 ghost use Rattle.v2job.specs.Waiting.{longest_record, Waits, Refilled, Collects, Ready, Added, Shows, Goes, Turned};
 
 use job::State;
-use kinds::Held;
 use line::{LONGEST_LINE, Line};
 
 // The longest record: a length of two bytes, then at most 4,100.
@@ -42,13 +41,8 @@ fn move_to_front(input: &mut [u8], start: usize, end: usize) -> usize
     requires { (start ≤ end) × (end ≤ length input.old) }
     ensures { (result ≡ end - start) × (take result input.new ≡ take result (drop start input.old)) }
 {
-    let len = end - start;
-    let mut t = 0;
-    while t < len {
-        input[t] = input[start + t];
-        t += 1;
-    }
-    len
+    input.copy_within(start..end, 0);
+    end - start
 }
 
 // Reads on until the buffer is full or the input ends, unless the longest record waits already.
@@ -77,11 +71,10 @@ fn make_room(shelf: Shelf, output: &[u8]) -> Shelf
     requires { Collects shelf (length output.now) }
     ensures { Ready shelf result (length output.now) }
 {
-    let filled = shelf.filled;
-    if LONGEST_LINE <= output.len() - filled {
+    if LONGEST_LINE <= output.len() - shelf.filled {
         return shelf;
     }
-    let written = io::write_all(1, &output[..filled]);
+    let written = io::write_all(1, &output[..shelf.filled]);
     Shelf {
         filled: 0,
         open: written,
@@ -102,15 +95,15 @@ fn add(line: Line, shelf: Shelf, output: &mut [u8]) -> Shelf
     }
 }
 
-// Adds a line, if it is shown.
-fn show(shown: bool, line: Line, shelf: Shelf, output: &mut [u8]) -> Shelf
+// Adds a line, if there is one.
+fn show(line: Option<Line>, shelf: Shelf, output: &mut [u8]) -> Shelf
     requires { Collects shelf (length output.old) }
-    ensures { Shows shown line shelf output.old result output.new }
+    ensures { Shows line shelf output.old result output.new }
 {
-    if shown {
-        return add(line, shelf, output);
+    match line {
+        Some(line) => add(line, shelf, output),
+        None => shelf,
     }
-    shelf
 }
 
 // Takes one record.
@@ -119,17 +112,13 @@ fn turn(run: Run, input: &mut [u8], output: &mut [u8], stripe: &mut [u8], work: 
     ensures { Turned run input.old output.old stripe.old (length work.old) result input.new output.new stripe.new work.new }
 {
     let feed = refill(run.feed, input);
-    let start = feed.start;
-    let end = feed.end;
-    let step = job::step(run.state, &input[start..end], stripe, work);
-    let shelf = show(step.shown, step.line, run.shelf, output);
-    let state = step.state;
+    let step = job::step(run.state, &input[feed.start..feed.end], stripe, work);
+    let shelf = show(step.line, run.shelf, output);
     Run {
-        state,
+        state: step.state,
         feed: Feed {
-            start: start + step.taken,
-            end,
-            open: feed.open,
+            start: feed.start + step.taken,
+            ..feed
         },
         shelf,
         running: !step.stops & shelf.open,
@@ -143,7 +132,7 @@ fn begin() -> Run
 {
     Run {
         state: State {
-            held: Held::None,
+            held: None,
             records: 0,
         },
         feed: Feed {
@@ -159,26 +148,28 @@ fn begin() -> Run
     }
 }
 
-// Writes the output that waits. A program has no exit status: that some output could not be written is said on standard error.
+// Writes the output that waits. A program has no exit status: that some output could not be written is said on
+// standard error.
 fn finish(shelf: Shelf, output: &[u8])
     requires { Collects shelf (length output.now) }
 {
-    let filled = shelf.filled;
-    let written = io::write_all(1, &output[..filled]);
+    let written = io::write_all(1, &output[..shelf.filled]);
     if !(written & shelf.open) {
         io::write_all(2, b"v2job: not all lines could be written\n");
     }
 }
 
-// Takes records until the step says stop. Nothing says that an input ends, and a proved loop has to: so it counts down from a number that no run uses up.
+// Takes records until the step says stop. Nothing says that an input ends, and a proved loop has to: so it counts to
+// a number that no run reaches.
 fn serve(input: &mut [u8], output: &mut [u8], stripe: &mut [u8], work: &mut [u8])
     requires { (longest_record ≤ length input.old) × (longest_line ≤ length output.old) }
 {
     let mut run = begin();
-    let mut turns = u64::MAX;
-    while turns > 0 && run.running {
+    for _ in 0..u64::MAX {
+        if !run.running {
+            break;
+        }
         run = turn(run, input, output, stripe, work);
-        turns -= 1;
     }
     finish(run.shelf, output);
 }

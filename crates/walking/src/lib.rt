@@ -13,28 +13,31 @@ use shape::Shape;
 // The two of the top height start at x and y, the parity symbol at `at`.
 #[derive(Clone, Copy)]
 pub struct Walk {
-    pub top: usize,
+    pub shape: Shape,
     pub p: usize,
+    pub top: usize,
     pub l: usize,
     pub r: usize,
     pub end: usize,
     pub x: usize,
     pub y: usize,
     pub at: usize,
+    ghost walks: { Walks shape p top l r end x y at },
 }
 
 // The walk of chain p that from height `end` on goes on from the columns l and r, with its top pair in columns a and b; `along` finds these for it.
 fn walk_through(sh: Shape, p: usize, l: usize, r: usize, end: usize, a: usize, b: usize) -> Walk
     requires { (Good sh) × (Ways sh p p p 0 1 end) × (Ways sh p l r end end (sh.m - 1)) × (a ≡ left sh.n p (sh.m - 1)) × (b ≡ right sh.n p (sh.m - 1)) }
-    ensures { (Walks sh result.p result) × (result.p ≡ p) }
+    ensures { (result.shape ≡ sh) × (result.p ≡ p) }
 {
     let top = sh.m - 1;
     Walk {
-        top: top,
-        p: p,
-        l: l,
-        r: r,
-        end: end,
+        shape: sh,
+        p,
+        top,
+        l,
+        r,
+        end,
         x: sh.place(top, a),
         y: sh.place(top, b),
         at: sh.place(0, p),
@@ -45,7 +48,7 @@ fn walk_through(sh: Shape, p: usize, l: usize, r: usize, end: usize, a: usize, b
 // Whoever calls it has had `refusal` answer Done, and asks for a chain of the shape.
 pub fn along(sh: Shape, p: usize) -> Walk
     requires { (Good sh) × (p < sh.n) }
-    ensures { (Walks sh result.p result) × (result.p ≡ p) }
+    ensures { (result.shape ≡ sh) × (result.p ≡ p) }
 {
     let n = sh.n;
     let top = sh.m - 1;

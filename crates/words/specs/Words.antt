@@ -1,5 +1,5 @@
 -- THE WORDS OF THE INPUT, and the numbers that they spell. Definitions only.
-use Rattle.std.specs.Prelude.{◌≡◌, ◌⊎◌, List, [], ◌∷◌, ℕ, ◌+◌, ◌-◌, ◌*◌, ◌≤◌, ◌<◌, length, get_or}
+use Rattle.std.specs.Prelude.{◌≡◌, ◌⊎◌, Option, Some, None, List, [], ◌∷◌, ℕ, ◌+◌, ◌-◌, ◌*◌, ◌≤◌, ◌<◌, length, get_or}
 use Rattle.words.specs.declared.Word.{Word}
 
 -- a space, and every byte below it, is a blank
@@ -20,10 +20,12 @@ pub record Letters (text : List ℕ) (from r : ℕ) : Type 0 where
   pub all : (k : ℕ) → from ≤ k → k < r → blank < get_or text k 0
   pub ends : r < length text → get_or text r 0 ≤ blank
 
--- the first word of a text from `from` on: it is after the blanks, and as long as there are none
-pub record Worded (text : List ℕ) (from : ℕ) (word : Word) : Type 0 where
-  pub blanks : Blanks text from word.start
-  pub letters : Letters text word.start word.end
+-- the first word of a text from `from` on: it is after the blanks, and as long as there are none; there is none where the blanks end with the text
+pub record Worded (text : List ℕ) (from : ℕ) (r : Option Word) : Type 0 where
+  pub blanks : (word : Word) → r ≡ Some word → Blanks text from word.start
+  pub letters : (word : Word) → r ≡ Some word → Letters text word.start word.end
+  pub some : (word : Word) → r ≡ Some word → word.start < word.end
+  pub none : r ≡ None → Blanks text from (length text)
 
 -- every byte is a decimal digit: 0 is the byte 48, and 9 is 57
 abbrev pub Digits : List ℕ → Type 0
@@ -34,11 +36,11 @@ unfoldable pub spelled : ℕ → List ℕ → ℕ
 spelled v [] = v
 spelled v (b ∷ bs) = spelled (10 * v + (b - 48)) bs
 
--- below 1000, r is the number that the word spells; 1000 says that it spells none below
-pub record Spells (word : List ℕ) (r : ℕ) : Type 0 where
-  pub most : r ≤ 1000
-  pub number : r < 1000 → Digits word × (r ≡ spelled 0 word)
-  pub none : r ≡ 1000 → (¬ Digits word) ⊎ (1000 ≤ spelled 0 word)
+-- r is the number that the word spells, if that is below 1000; None says that it spells none below
+pub record Spells (word : List ℕ) (r : Option ℕ) : Type 0 where
+  pub most : (v : ℕ) → r ≡ Some v → v < 1000
+  pub number : (v : ℕ) → r ≡ Some v → Digits word × (v ≡ spelled 0 word)
+  pub none : r ≡ None → (¬ Digits word) ⊎ (1000 ≤ spelled 0 word)
 
 -- the word spells no number from `least` to `most`
 abbrev pub Refused : List ℕ → ℕ → ℕ → Type 0

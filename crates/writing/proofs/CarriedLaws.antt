@@ -9,7 +9,7 @@ use native.Mathlib.Decide.{ℕ_discrete}
 use lib.ListN.{length, get_or}
 use Rattle.xor.specs.Xor.{◌⊕◌}
 use Rattle.shape.specs.declared.Shape.{Shape}
-use Rattle.answer.specs.declared.Answer.TheVariants.{Done}
+use Rattle.std.specs.Prelude.{Ok}
 use Rattle.shape.specs.Good.{Good, size}
 use Rattle.shape.specs.Place.{height, byte}
 use Rattle.shape.specs.Step.{left, right}
@@ -66,7 +66,7 @@ module _ (sh : Shape) (good : Good sh) (s : List ℕ) (len : length s ≡ size s
 
   -- so they leave what any small write leaves
   module _ (r : ℕ) (e : h ≡ height sh r) (passed : First (write_table sh s c r x) 0) where
-    module _ (y : List ℕ) (z : SmallWrite sh s c r x Done y) where
+    module _ (y : List ℕ) (z : SmallWrite sh s c r x (Ok tt) y) where
       written : Written sh s c r x y
       unfolding number
       written = z.done refl
@@ -99,6 +99,6 @@ module _ (sh : Shape) (good : Good sh) (s : List ℕ) (len : length s ≡ size s
     pub steps_written : Written sh s c r x s'
     unfolding number
     steps_written = let (a, y, z) = write_some sh s c r x in
-        let done : a ≡ Done = (number_done a).0 (first_one (write_table sh s c r x) _ _ z.answer passed) in
-        let z' : SmallWrite sh s c r x Done y = rw done at z in
+        let done : a ≡ (Ok tt) = (number_done a).0 (first_one (write_table sh s c r x) _ _ z.answer passed) in
+        let z' : SmallWrite sh s c r x (Ok tt) y = rw done at z in
         subst (λ (l : List ℕ). Written sh s c r x l) (sym (same y z')) (written y z')

@@ -12,7 +12,7 @@ use borrow.Author.Tests.{eq-eqb, ne_eqb}
 use Rattle.xor.specs.Xor.{◌⊕◌}
 use Rattle.xor.proofs.XorLaws.{⊕_laws, ⊕_off, ⊕_cancel, ⊕_zero_l, ⊕_zero_r}
 use Rattle.shape.specs.declared.Shape.{Shape}
-use Rattle.answer.specs.declared.Answer.TheVariants.{Done}
+use Rattle.std.specs.Prelude.{Ok}
 use Rattle.shape.specs.Place.{height, byte}
 use Rattle.shape.specs.Step.{left, right}
 use Rattle.answer.specs.Answers.{number}
@@ -86,7 +86,7 @@ module _ (sh : Shape) (pos : 1 ≤ sh.m) (room : sh.m + sh.m ≤ sh.n + 1) (s : 
           (λ d hd e. ap (chain sh.m sh.n (only c M)) e ∙ only_right sh.m sh.n room pos c hc M d hd ∙ miss d (λ u. g (e ∙ ap (right sh.n c) u)) c)
           (only_away sh.m sh.n room pos c hc M p hp)
 
-pub two_parities : (sh : Shape) (s : List ℕ) (c r : ℕ) (z x : List ℕ) → SmallWrite sh s c r z Done x → (p t : ℕ) → p < sh.n → t < sh.w
+pub two_parities : (sh : Shape) (s : List ℕ) (c r : ℕ) (z x : List ℕ) → SmallWrite sh s c r z (Ok tt) x → (p t : ℕ) → p < sh.n → t < sh.w
     → ((p ≡ left sh.n c (height sh r)) ⊎ (p ≡ right sh.n c (height sh r))
     → byte sh x t 0 p ≡ byte sh s t 0 p ⊕ (byte sh s t (height sh r) c ⊕ get_or z t 0))
     × (p ≢ left sh.n c (height sh r) → p ≢ right sh.n c (height sh r) → byte sh x t 0 p ≡ byte sh s t 0 p)

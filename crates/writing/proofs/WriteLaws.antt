@@ -6,7 +6,7 @@ use native.Mathlib.Omega.{arith}
 use Rattle.xor.specs.Xor.{◌⊕◌}
 use Rattle.xor.proofs.XorLaws.{⊕_laws, ⊕_off}
 use Rattle.shape.specs.declared.Shape.{Shape}
-use Rattle.answer.specs.declared.Answer.{Answer}
+use Rattle.answer.specs.Answers.{Answer}
 use Rattle.shape.specs.Place.{height, byte}
 use Rattle.answer.specs.Answers.{Rises}
 use Rattle.shape.specs.Refusals.{shape_table, stripe_table}

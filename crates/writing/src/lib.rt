@@ -7,23 +7,24 @@ ghost use Rattle.shape.specs.Good.{Good, size};
 ghost use Rattle.writing.specs.Carried.{Carried};
 ghost use Rattle.writing.specs.Write.{Written, SmallWrite};
 
-use answer::Answer;
+use answer::{Answer, Refusal};
+use block::LONGEST;
 use shape::Shape;
 use storing::store;
 use xor::change;
 
 // XORs into the bytes at `at` the difference between those at `from` and the first `whole` of x, a number of whole blocks; `carry` asks for places apart.
+// (A `while`, as a `for` over the blocks would count them besides the bytes.)
 fn change_blocks(s: &mut [u8], at: usize, from: usize, x: &[u8], whole: usize)
     requires { (at + whole ≤ length s.old) × (from + whole ≤ length s.old) × (whole ≤ length x.now) × (whole % 128 ≡ 0) × ((at + whole ≤ from) ⊎ (from + whole ≤ at)) }
     ensures { Spanned (change_of s.old at from x.now) s.old s.new at whole }
 {
     let mut t = 0;
     while t < whole {
-        let mut acc = [0u8; 128];
-        block::both(&mut acc, s, from + t, x, t, 128);
-        block::add(&mut acc, s, at + t, 128);
-        block::put(&acc, s, at + t, 128);
-        t += 128;
+        let mut acc = block::both::<LONGEST>(s, from + t, x, t);
+        block::add(&mut acc, s, at + t);
+        block::put(&acc, s, at + t);
+        t += LONGEST;
     }
 }
 
@@ -35,7 +36,7 @@ fn carry(shape: Shape, stripe: &mut [u8], height: usize, column: usize, chain: u
     let parity = shape.place(0, chain);
     let from = shape.place(height, column);
     let len = symbol.len();
-    let whole = len - len % 128;
+    let whole = len - len % LONGEST;
     change_blocks(stripe, parity, from, symbol, whole);
     if whole < len {
         change(stripe, parity + whole, from + whole, &symbol[whole..]);
@@ -65,19 +66,13 @@ pub fn small_write(
 ) -> Answer
     ensures { SmallWrite shape stripe.old column row symbol.now result stripe.new }
 {
-    match shape.stripe_refusal(stripe) {
-        Answer::Done => {}
-        answer => return answer,
-    }
-    if shape.n <= column {
-        return Answer::NoSuchPlace;
-    }
-    if shape.m - 1 <= row {
-        return Answer::NoSuchPlace;
+    shape.accept_stripe(stripe)?;
+    if shape.n <= column || shape.m - 1 <= row {
+        return Err(Refusal::NoSuchPlace);
     }
     if symbol.len() != shape.w {
-        return Answer::BadBuffer;
+        return Err(Refusal::BadBuffer);
     }
     replace(shape, stripe, column, row, symbol);
-    Answer::Done
+    Ok(())
 }

@@ -10,11 +10,8 @@ pub fn copy(from: &[u8], s: &mut [u8], at: usize)
     requires { at + length from.now ≤ length s.old }
     ensures { Spanned (λ t. get_or from.now t 0) s.old s.new at (length from.now) }
 {
-    let len = from.len();
-    let mut t = 0;
-    while t < len {
-        s[at + t] = from[t];
-        t += 1;
+    for (t, byte) in from.iter().enumerate() {
+        s[at + t] = *byte;
     }
 }
 
@@ -23,12 +20,8 @@ pub fn change(s: &mut [u8], at: usize, from: usize, x: &[u8])
     requires { (at + length x.now ≤ length s.old) × (from + length x.now ≤ length s.old) × ((at + length x.now ≤ from) ⊎ (from + length x.now ≤ at)) }
     ensures { Spanned (change_of s.old at from x.now) s.old s.new at (length x.now) }
 {
-    let len = x.len();
-    let mut t = 0;
-    while t < len {
-        let to = at + t;
-        s[to] = s[to] ^ (s[from + t] ^ x[t]);
-        t += 1;
+    for (t, byte) in x.iter().enumerate() {
+        s[at + t] ^= s[from + t] ^ byte;
     }
 }
 
@@ -36,10 +29,5 @@ pub fn change(s: &mut [u8], at: usize, from: usize, x: &[u8])
 pub fn clear(s: &mut [u8])
     ensures { (length s.new ≡ length s.old) × ((i : ℕ) → get_or s.new i 0 ≡ 0) }
 {
-    let len = s.len();
-    let mut t = 0;
-    while t < len {
-        s[t] = 0;
-        t += 1;
-    }
+    s.fill(0);
 }

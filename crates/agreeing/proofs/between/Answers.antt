@@ -16,7 +16,7 @@ next-is n f p e q lo ep eq = let z : e - 1 + 1 ≡ e = omega arith in eq ∙ ap 
 
 pub loop-e-init : goal.loop-e-init
 loop-e-init c =
-    (omega arith, c.requires.2, sym (right_zero c.args.x.shape.n c.args.x.first c.requires.2), λ d hi lo. absurd (omega arith))
+    (c.requires.2, sym (right_zero c.args.x.shape.n c.args.x.first c.requires.2), λ d hi lo. absurd (omega arith))
 
 pub holds-requires : goal.holds-requires
 holds-requires c =
@@ -24,10 +24,10 @@ holds-requires c =
     let l = c.loop-e in
     let up = c.above-p.ensures in
     let he : l.e < x.shape.n = omega (arith, c.requires.3) in
-    let q = next-is x.shape.n x.first l.p l.e _ l.invariant.0 l.invariant.2 up.is in (
+    let q = next-is x.shape.n x.first l.p l.e _ (omega arith) l.invariant.1 up.is in (
       c.requires.0,
       up.below,
-      rw (sym q) at (c.requires.4 l.e l.invariant.0 (omega arith)),
+      rw (sym q) at (c.requires.4 l.e (omega arith) (omega arith)),
       c.requires.1,
       sym (same_distance x.shape x.first _ l.e c.requires.2 up.below he (rw (sym q) at (right_reach x.shape.n x.first l.e c.requires.2 he))),
     )
@@ -36,8 +36,8 @@ pub returns-then-not-holds : goal.returns-then-not-holds
 returns-then-not-holds c =
     let x = c.args.x in
     let l = c.loop-e in
-    let q = next-is x.shape.n x.first l.p l.e _ l.invariant.0 l.invariant.2 c.above-p.ensures.is in
-    tells_false (λ all. told_no c.holds.ensures (not-true _ c.if-not-holds.true-raw) (rw q (all l.e l.invariant.0 (omega arith))))
+    let q = next-is x.shape.n x.first l.p l.e _ (omega arith) l.invariant.1 c.above-p.ensures.is in
+    tells_false (λ all. told_no c.holds.ensures (not-true _ c.if-not-holds.true-raw) (rw q (all l.e (omega arith) (omega arith))))
 
 pub loop-e-preserved : goal.loop-e-preserved
 loop-e-preserved c =
@@ -45,11 +45,10 @@ loop-e-preserved c =
     let x = a.x in
     let l = c.loop-e in
     let up = c.above-p.ensures in
-    let q = next-is x.shape.n x.first l.p l.e _ l.invariant.0 l.invariant.2 up.is in
+    let q = next-is x.shape.n x.first l.p l.e _ (omega arith) l.invariant.1 up.is in
     let back : l.e ≡ l.e + 1 - 1 = omega arith in
     let here = c.holds.ensures.yes (not-false _ c.if-not-holds.false-raw) in (
-      omega arith,
       up.below,
       q ∙ ap (right x.shape.n x.first) back,
-      so_far (λ (d : ℕ). 1 ≤ d → Holds x a.s.now a.out.now (right x.shape.n x.first d)) l.e l.invariant.3 (λ lo. rw q at here),
+      so_far (λ (d : ℕ). 1 ≤ d → Holds x a.s.now a.out.now (right x.shape.n x.first d)) l.e l.invariant.2 (λ lo. rw q at here),
     )

@@ -1,4 +1,4 @@
--- `between`. The invariant: p is the chain before the one that is e up from first, and those up to it hold. The measure: the chains to go.
+-- `between`: p is the chain before the one that is e up from first, and those up to it hold.
 use mathlib.Core.Path.{◌≡◌}
 use Prim.Native.Nat.{ℕ, ◌-◌, ◌≤◌, ◌<◌}
 use Rattle.shape.specs.Step.{right}
@@ -7,7 +7,4 @@ use Rattle.agreeing.proofs.between.Given as goal
 
 abbrev pub invariant-loop-e : goal.invariant-loop-e
 invariant-loop-e l =
-    (1 ≤ l.e) × (l.p < l.x.shape.n) × (l.p ≡ right l.x.shape.n l.x.first (l.e - 1)) × ((d : ℕ) → d < l.e → 1 ≤ d → Holds l.x l.s l.out (right l.x.shape.n l.x.first d))
-
-abbrev pub decreases-loop-e : goal.decreases-loop-e
-decreases-loop-e l = l.end - l.e
+    (l.p < l.x.shape.n) × (l.p ≡ right l.x.shape.n l.x.first (l.e - 1)) × ((d : ℕ) → d < l.e → 1 ≤ d → Holds l.x l.s l.out (right l.x.shape.n l.x.first d))

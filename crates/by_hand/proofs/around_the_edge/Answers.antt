@@ -1,7 +1,7 @@
 -- `around_the_edge`: rebuild has one outcome, and P7 is it.
 use mathlib.Core.Path.{refl, ◌∙◌}
 use native.Mathlib.Omega.{arith}
-use borrow.Author.Tests.{eq-eqb}
+use Rattle.std.proofs.lemmas.Slice.Eq.{bytes_eq-Decides}
 use Rattle.rule.specs.declared.Losses.TheVariants.{Two}
 use Rattle.demands.specs.Cases.{woven, information, parity, stripe₅, lost_4_0}
 use Rattle.demands.proofs.Five.{p7}
@@ -10,10 +10,10 @@ use Rattle.by_hand.proofs.around_the_edge.Goals as goal
 
 pub expect-requires : goal.expect-requires
 unfolding woven lost_4_0
-expect-requires c =
-    eq-eqb _ 0 (c.number.ensures ∙ (rebuild_told _ _ lost_4_0 (Two 4 0) 4 _ _ _ _ c.five.ensures refl (omega arith) p7.2 c.rebuild-answer.ensures).0)
+expect-requires g c =
+    c.is_ok.ensures.value ∙ (rebuild_told _ _ lost_4_0 (Two 4 0) 4 _ _ _ _ c.five.ensures refl (omega arith) p7.2 c.rebuild-answer.ensures).0
 
 pub expect-requires-2 : goal.expect-requires-2
 unfolding woven information parity stripe₅ lost_4_0
-expect-requires-2 c =
-    c.same.ensures.1 (rebuild_told _ _ lost_4_0 (Two 4 0) 4 _ _ _ _ c.five.ensures refl (omega arith) p7.2 c.rebuild-answer.ensures).1
+expect-requires-2 g c =
+    c.eq.ensures ∙ (bytes_eq-Decides _ _).1 (rebuild_told _ _ lost_4_0 (Two 4 0) 4 _ _ _ _ c.five.ensures refl (omega arith) p7.2 c.rebuild-answer.ensures).1

@@ -1,12 +1,11 @@
 -- `encoded`: encode has one outcome, and P5 is it.
 use mathlib.Core.Path.{◌∙◌}
-use borrow.Author.Tests.{eq-eqb}
 use Rattle.by_hand.proofs.Told.{encode_told}
 use Rattle.by_hand.proofs.encoded.Goals as goal
 
 pub expect-requires : goal.expect-requires
 expect-requires c =
-    eq-eqb _ 0 (c.number.ensures ∙ (encode_told _ _ _ c.five.ensures c.encode-answer.ensures).0)
+    c.is_ok.ensures.value ∙ (encode_told _ _ _ c.five.ensures c.encode-answer.ensures).0
 
 pub returns : goal.returns
 returns c =

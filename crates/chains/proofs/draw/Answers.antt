@@ -1,13 +1,14 @@
-use mathlib.Core.Path.{◌≡◌}
+use mathlib.Core.Path.{◌≡◌, ◌∙◌, ap}
 use mathlib.Core.Logic.{inl, inr}
 use Prim.Native.Nat.{◌≤◌}
 use native.Mathlib.Omega.{arith}
 use native.Mathlib.Decide.{dec_le}
 use Rattle.shape.specs.declared.Shape.{Shape}
-use Rattle.answer.specs.declared.Answer.{Answer}
-use Rattle.answer.specs.declared.Answer.TheVariants.{BadRows, BadColumns}
+use Rattle.answer.specs.Answers.{Answer}
+use Rattle.std.specs.Prelude.{Err}
+use Rattle.answer.specs.declared.Refusal.TheVariants.{BadRows, BadColumns}
 use Rattle.shape.specs.Good.{Outside, rows, columns}
-use Rattle.answer.specs.Answers.{number, First}
+use Rattle.answer.specs.Answers.{number, refusal_number, First}
 use Rattle.shape.specs.Refusals.{shape_table}
 use Rattle.shape.proofs.Asked.{done_good}
 use Rattle.words.proofs.WordsLaws.{refused}
@@ -15,8 +16,8 @@ use Rattle.chains.proofs.draw.Goals as goal
 
 -- `draw`: a shape that is not refused is good; where its rows are refused, m is outside of its range; where its columns are, n is, and m is not.
 -- the first row applies
-rows_out : (sh : Shape) (a : Answer) → First (shape_table sh) (number a) → a ≡ BadRows → Outside rows sh.m
-unfolding number shape_table
+rows_out : (sh : Shape) (a : Answer) → First (shape_table sh) (number a) → a ≡ (Err BadRows) → Outside rows sh.m
+unfolding number refusal_number shape_table
 rows_out sh a h e = at (rw e at h)
   where
     at : First (shape_table sh) 1 → Outside rows sh.m
@@ -26,9 +27,9 @@ rows_out sh a h e = at (rw e at h)
     at (inr (_, inr (_, inr z))) = absurd (omega (arith, z.1))
 
 -- the second row applies, and the first does not
-columns-out : (sh : Shape) (a : Answer) → First (shape_table sh) (number a) → a ≡ BadColumns → (2 ≤ sh.m) × Outside (columns sh.m) sh.n
-unfolding number shape_table
-columns-out sh a h e = at (rw e at h) (dec_le 2 sh.m)
+columns_out : (sh : Shape) (a : Answer) → First (shape_table sh) (number a) → a ≡ (Err BadColumns) → (2 ≤ sh.m) × Outside (columns sh.m) sh.n
+unfolding number refusal_number shape_table
+columns_out sh a h e = at (rw e at h) (dec_le 2 sh.m)
   where
     at : First (shape_table sh) 2 → Dec (2 ≤ sh.m) → (2 ≤ sh.m) × Outside (columns sh.m) sh.n
     at (inl z) d = absurd (omega (arith, z.1))
@@ -38,15 +39,17 @@ columns-out sh a h e = at (rw e at h) (dec_le 2 sh.m)
     at (inr (_, inr (_, inr z))) (yes l) = absurd (omega (arith, z.1))
 
 pub chains-requires : goal.chains-requires
-chains-requires c = done_good _ _ c.refusal.ensures c.in-Done.is
+chains-requires c = done_good _ _ c.accept.ensures c.in-Ok.is
 
 pub refuse-requires : goal.refuse-requires
 refuse-requires c =
-    refused _ _ _ _ c.number-m.ensures (rows_out _ _ c.refusal.ensures c.in-BadRows.is) (omega arith)
+    refused _ _ _ _ _ c.number.ensures c.unwrap_or-m.ensures
+    (rows_out _ _ c.accept.ensures (c.in-Err-BadRows.is ∙ ap Err c.in-Err-BadRows.field-0-is)) (omega arith)
 
 pub overflow_sub-m : goal.overflow_sub-m
-overflow_sub-m c = omega (arith, columns-out _ _ c.refusal.ensures c.in-BadColumns.is)
+overflow_sub-m c = omega (arith, columns_out _ _ c.accept.ensures (c.in-Err-BadColumns.is ∙ ap Err c.in-Err-BadColumns.field-0-is))
 
-pub refuse-requires-in-BadColumns : goal.refuse-requires-in-BadColumns
-refuse-requires-in-BadColumns c =
-    refused _ _ _ _ c.number-n.ensures (columns-out _ _ c.refusal.ensures c.in-BadColumns.is).1 (omega arith)
+pub refuse-requires-in-Err-BadColumns : goal.refuse-requires-in-Err-BadColumns
+refuse-requires-in-Err-BadColumns c =
+    refused _ _ _ _ _ c.number-2.ensures c.unwrap_or-n.ensures
+    (columns_out _ _ c.accept.ensures (c.in-Err-BadColumns.is ∙ ap Err c.in-Err-BadColumns.field-0-is)).1 (omega arith)

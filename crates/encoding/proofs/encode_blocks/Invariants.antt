@@ -5,7 +5,7 @@ use Rattle.encoding.specs.Settled.{Settled, Stretch}
 use Rattle.encoding.proofs.encode_blocks.Given as goal
 
 abbrev pub invariant-loop-from : goal.invariant-loop-from
-invariant-loop-from l = (l.from ≤ l.whole) × ((l.whole - l.from) % 128 ≡ 0) × Settled l.sh (Stretch l.wk.p 0 l.from) l.initial.stripe l.stripe
+invariant-loop-from l = (l.from ≤ l.whole) × ((l.whole - l.from) % 128 ≡ 0) × Settled l.wk.shape (Stretch l.wk.p 0 l.from) l.initial.stripe l.stripe
 
 abbrev pub decreases-loop-from : goal.decreases-loop-from
 decreases-loop-from l = l.whole - l.from

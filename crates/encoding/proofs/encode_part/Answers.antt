@@ -10,13 +10,14 @@ use Rattle.encoding.proofs.SettledLaws.{settled_span}
 use Rattle.encoding.proofs.encode_part.Goals as goal
 
 pub returns : goal.returns
-returns c =
-    let sh = c.args.sh in
-    let p = c.args.wk.p in
+returns g c =
+    let wk = c.args.wk in
+    let sh = wk.shape in
+    let p = wk.p in
     let from = c.args.from in
     let lent = c.args.stripe.now in (
       refl,
-      settled_span sh c.requires.0.good lent _ p from c.args.len c.requires.1.near.here c.requires.0.inside
+      settled_span sh c.requires.good lent _ p from g.row.LEN wk.walks.near.here c.requires.inside
           (span_same (λ t. others sh.m sh.n (byte sh lent (from + t)) p) c.put.ensures
-          (ap (λ (a : ℕ). a + from) c.requires.1.at_is.at ∙ place_add sh 0 p 0 from ∙ ap (place sh 0 p) (omega arith)) (λ t h. c.others-acc.ensures.at t h)),
+          (ap (λ (a : ℕ). a + from) wk.walks.at_is.at ∙ place_add sh 0 p 0 from ∙ ap (place sh 0 p) (omega arith)) (λ t h. c.others-acc.ensures.at t h)),
     )

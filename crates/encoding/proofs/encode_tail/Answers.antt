@@ -4,4 +4,4 @@ use Rattle.encoding.proofs.encode_tail.Goals as goal
 
 pub loop-from-preserved : goal.loop-from-preserved
 loop-from-preserved c =
-    (omega arith, omega arith, stretch_then _ c.requires.0 _ _ _ _ _ c.loop-from.from _ (omega arith) (omega arith) c.loop-from.invariant.2 c.encode_some-from.ensures.2)
+    (omega arith, omega arith, stretch_then _ c.args.wk.walks.good _ _ _ _ _ c.loop-from.from _ (omega arith) (omega arith) c.loop-from.invariant.2 c.encode_some-from.ensures.2)

@@ -1,15 +1,14 @@
-use mathlib.Core.Path.{◌∙◌}
-use Prim.Native.Nat.{◌≤◌}
+use mathlib.Core.Path.{sym, ap, ◌∙◌}
 use native.Mathlib.Omega.{arith}
+use lib.ListN.{length}
 use Rattle.line.proofs.PrintedLaws.{digits_are, digits_few, put_from}
 use Rattle.line.proofs.put.Goals as goal
-use Rattle.line.proofs.put.Goals.{After-decimal-count}
 
 -- `put`: the kit's digits are the number's, the copy puts them at the place, and the store puts the byte after them.
--- there are at most 20 digits
-few : (c : After-decimal-count) → c.decimal-count.result ≤ 20
-few c = digits_few c.args.number _ (omega arith) c.decimal-count.ensures.len
-
 pub returns : goal.returns
 returns c =
-    put_from c.args.number _ _ _ _ _ _ c.decimal-count.ensures.in_bounds.1 (c.decimal-count.ensures.digits ∙ digits_are _ _ c.decimal-count.ensures.len) (few (goal.at.returns c).After-decimal-count) c.requires c.copy.ensures
+    let digits = c.decimal-count.ensures in
+    let copied = c.copy_from_slice.ensures.after in
+    let few = digits_few c.args.number _ (omega arith) digits.len in
+    put_from c.args.number c.args.mark c.decimal-count.result c.copy_from_slice.new.self c.args.out.now c.args.at _
+    (digits.in_bounds.1 ∙ ap length (sym copied)) (copied ∙ digits.digits ∙ digits_are _ _ digits.len) few c.requires (omega arith)

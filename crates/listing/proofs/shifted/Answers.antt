@@ -19,4 +19,10 @@ overflow_cast-there c = omega (arith, starts c.args.sh c.requires.0 (c.args.sh.m
 pub returns : goal.returns
 returns c =
     let a = c.args in
-    straight_of a.sh c.requires.0 a.p _ c.requires.1 a.list.now _ c.requires.2 (rw c.column_length-column.ensures.is at c.wrapping_sub_u16.ensures.value) c.moved.ensures
+    let k = c.column_length-column.result in
+    let is = c.column_length-column.ensures.is in
+    let here : a.p * k ≡ a.p * column_length a.sh = ap (λ (z : ℕ). a.p * z) is in
+    let there : (a.sh.m - 1) * k ≡ (a.sh.m - 1) * column_length a.sh = ap (λ (z : ℕ). (a.sh.m - 1) * z) is in
+    let here_in = starts a.sh c.requires.0 a.p k c.requires.1 is in
+    let there_in = starts a.sh c.requires.0 (a.sh.m - 1) k (top_in a.sh c.requires.0) is in
+    straight_of a.sh c.requires.0 a.p _ c.requires.1 a.list.now _ c.requires.2 (omega (arith, here, there, here_in, there_in)) c.moved.ensures

@@ -7,4 +7,4 @@ pub returns-then-n-p : goal.returns-then-n-p
 returns-then-n-p c =
     let is = c.stripe_length-then-n-p.ensures.is in
     laid_right c.args.sh c.requires.0 c.args.p c.requires.1 c.args.list.now c.requires.2 _ _ (omega arith) (omega arith)
-    (omega (arith, is, c.wrapping_sub_u16-back.ensures)) c.further-then-n-p.ensures
+    (omega (arith, is)) c.further-then-n-p.ensures

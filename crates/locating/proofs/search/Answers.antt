@@ -2,7 +2,6 @@ use mathlib.Core.Path.{refl}
 use mathlib.Core.Logic.{inl, inr}
 use native.Mathlib.Omega.{arith}
 use borrow.Author.Count.{below_more}
-use borrow.Author.Tests.{not-true, not-false}
 use Rattle.locating.specs.Locate.{found}
 use Rattle.xor.proofs.TellsLaws.{told_no}
 use Rattle.locating.proofs.LocatingLaws.{explains_within, within_explains}
@@ -13,12 +12,12 @@ columns-preserved-then-not-within c =
     let at = c.columns in (
       omega arith,
       below_more _ _ at.invariant.1
-          (λ ex. told_no c.within.ensures (not-true _ c.if-not-within.true-raw) (explains_within c.args.shape c.args.s.now c.args.bits.now c.requires.1 at.next ex)),
+          (λ ex. told_no c.within.ensures c.if-not-within.true (explains_within c.args.shape c.args.s.now c.args.bits.now c.requires.1 at.next ex)),
     )
 
-pub returns-then-n-next : goal.returns-then-n-next
+pub returns-then-shape-next : goal.returns-then-shape-next
 unfolding found
-returns-then-n-next c = inr (refl, λ k l. c.columns.invariant.1 k (omega arith))
+returns-then-shape-next c = inr (refl, λ k l. c.columns.invariant.1 k (omega arith))
 
 pub returns-after-loop-d : goal.returns-after-loop-d
 unfolding found
@@ -29,5 +28,5 @@ returns-after-loop-d c =
       refl,
       omega arith,
       within_explains c.args.shape c.args.s.now c.args.bits.now c.requires.1 at.next
-          (c.within.ensures.yes (not-false _ c.if-not-within.false-raw)) (λ d lo hd. height.invariant.2 d (omega arith) lo),
+          (c.within.ensures.yes c.if-not-within.false) (λ d lo hd. height.invariant d (omega arith) lo),
     )

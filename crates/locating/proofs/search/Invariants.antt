@@ -1,5 +1,5 @@
 -- `search`. The invariant of the columns: none that was tried explains the differences. The invariant of the heights: at each height below d
--- the chains on either side of c differ alike. The measures are what is left of the columns and of the heights.
+-- the chains on either side of c differ alike. The measure is what is left of the columns.
 use Prim.Native.Nat.{ℕ, ◌-◌, ◌≤◌, ◌<◌}
 use Rattle.shape.specs.Step.{left, right}
 use Rattle.locating.specs.Locate.{Explains}
@@ -7,14 +7,10 @@ use Rattle.locating.specs.Locating.{Alike}
 use Rattle.locating.proofs.search.Given as goal
 
 abbrev pub invariant-loop-d : goal.invariant-loop-d
-invariant-loop-d l =
-    (1 ≤ l.d) × (l.d ≤ l.shape.m) × ((e : ℕ) → e < l.d → 1 ≤ e → Alike l.shape l.s (left l.shape.n l.c e) (right l.shape.n l.c e))
-
-abbrev pub decreases-loop-d : goal.decreases-loop-d
-decreases-loop-d l = l.m - l.d
+invariant-loop-d l = (e : ℕ) → e < l.d → 1 ≤ e → Alike l.shape l.s (left l.shape.n l.c e) (right l.shape.n l.c e)
 
 abbrev pub invariant-columns : goal.invariant-columns
 invariant-columns l = (l.next ≤ l.shape.n) × ((k : ℕ) → k < l.next → ¬ Explains l.shape l.s k)
 
 abbrev pub decreases-columns : goal.decreases-columns
-decreases-columns l = l.n - l.next
+decreases-columns l = l.shape.n - l.next

@@ -1,11 +1,7 @@
--- Whether a block is 0. The invariant: `any` is 0 just where the first k bytes are; the measure: the bytes to go.
-use Prim.Native.Nat.{◌-◌, ◌≤◌}
+-- Whether a block is 0: `any` is 0 just where the bytes so far are.
 use lib.ListN.{get_or}
 use Rattle.looking.proofs.Seen.{Seen}
 use Rattle.looking.proofs.none.Given as goal
 
-abbrev pub invariant-loop-k : goal.invariant-loop-k
-invariant-loop-k l = (l.k ≤ l.len) × Seen (λ t. get_or l.acc t 0) l.k l.any
-
-abbrev pub decreases-loop-k : goal.decreases-loop-k
-decreases-loop-k l = l.len - l.k
+abbrev pub invariant-loop-byte : goal.invariant-loop-byte
+invariant-loop-byte g l = Seen (λ t. get_or l.acc t 0) l.byte-index l.any

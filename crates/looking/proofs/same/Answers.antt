@@ -10,11 +10,11 @@ use Rattle.looking.proofs.same.Goals as goal
 
 pub loop-k-preserved : goal.loop-k-preserved
 unfolding ◌⊕◌
-loop-k-preserved c = (omega arith, seen_more c.loop-k.invariant.1)
+loop-k-preserved g c = seen_more c.loop-k.invariant
 
 pub returns : goal.returns
-returns c =
-    let s = c.loop-k.invariant.1 in
+returns g c =
+    let s = c.loop-k.invariant in
     record {
       yes = λ e t l. ⊕_eq _ _ (s.clear (eqb-true _ _ e) t (omega arith));
       no = λ h. ap (λ (x : ℕ). eqb x 0) (s.zero (λ t l. ⊕_same _ _ (h t (omega arith))));

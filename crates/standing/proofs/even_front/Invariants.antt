@@ -5,7 +5,7 @@ use Rattle.standing.specs.Standing.{Even}
 use Rattle.standing.proofs.even_front.Given as goal
 
 abbrev pub invariant-loop-from : goal.invariant-loop-from
-invariant-loop-from l = (l.from ≤ l.whole) × ((l.whole - l.from) % 128 ≡ 0) × Even l.sh l.s l.wk.p 0 l.from
+invariant-loop-from l = (l.from ≤ l.whole) × ((l.whole - l.from) % 128 ≡ 0) × Even l.wk.shape l.s l.wk.p 0 l.from
 
 abbrev pub decreases-loop-from : goal.decreases-loop-from
 decreases-loop-from l = l.whole - l.from

@@ -1,11 +1,6 @@
--- `pattern`: x stays below 65536; the measure is the bytes to go.
-use mathlib.Core.Path.{◌≡◌}
-use Prim.Native.Nat.{◌-◌, ◌≤◌, ◌<◌}
-use lib.ListN.{length}
+-- `pattern`: x stays below 65536.
+use Prim.Native.Nat.{◌<◌}
 use Rattle.trial.proofs.pattern.Given as goal
 
-abbrev pub invariant-loop-i : goal.invariant-loop-i
-invariant-loop-i l = (l.i ≤ length l.s) × (length l.s ≡ length l.initial.s) × (l.x < 65536)
-
-abbrev pub decreases-loop-i : goal.decreases-loop-i
-decreases-loop-i l = length l.s - l.i
+abbrev pub invariant-loop-byte : goal.invariant-loop-byte
+invariant-loop-byte l = l.x < 65536

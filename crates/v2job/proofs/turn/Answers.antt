@@ -28,7 +28,7 @@ returns c =
     record {
       goes = record {
         waits = record { from = took (goal.at.returns c).After-step-step; to = waits.to; roomy = waits.roomy };
-        collects = shows_collects c.step-step.result.shown c.step-step.result.line c.args.run.shelf c.args.output.now shown.result shown.new.output shown.ensures c.requires.collects;
+        collects = shows_collects c.step-step.result.line c.args.run.shelf c.args.output.now shown.result shown.new.output shown.ensures c.requires.collects;
       };
       fed = refilled.result;
       refilled = refilled.ensures;

@@ -13,7 +13,7 @@ pub loop-t-preserved : goal.loop-t-preserved
 loop-t-preserved c =
     let a = c.args in
     let l = c.loop-t in
-    let both = c.both.ensures in
+    let both = c.both-acc.ensures in
     let add = c.add.ensures in (
       omega arith,
       omega arith,

@@ -1,4 +1,3 @@
--- `change`: after t turns the first t bytes are changed and the rest of s is as it was; the measure is what is left to change.
 -- What a turn reads is not changed yet: its own byte is ahead, and the bytes at `from` are apart.
 use Rattle.std.proofs.Common.{ap₂, ⊎_elim, inl, inr, ℕ, ◌+◌, get_or, arith}
 use Rattle.xor.specs.Xor.{◌⊕◌}
@@ -10,9 +9,6 @@ unfolding ◌⊕◌
 loop-t-preserved c =
     let start = c in
     let at = c.loop-t in
-    let own = at.invariant.2.rest (start.args.at + at.t) (inr (omega arith)) in
-    let other = at.invariant.2.rest (start.args.from + at.t) (⊎_elim (λ l. inr (omega arith)) (λ g. inl (omega arith)) start.requires.2) in (
-      omega arith,
-      at.invariant.1,
-      span_more at.invariant.2 _ (ap₂ (λ (a b : ℕ). a ⊕ (b ⊕ get_or start.args.x.now at.t 0)) own other) (omega (arith, at.invariant.2.long)),
-    )
+    let own = at.invariant.rest (start.args.at + at.t) (inr (omega arith)) in
+    let other = at.invariant.rest (start.args.from + at.t) (⊎_elim (λ l. inr (omega arith)) (λ g. inl (omega arith)) start.requires.2) in
+    span_more at.invariant _ (ap₂ (λ (a b : ℕ). a ⊕ (b ⊕ get_or start.args.x.now at.t 0)) own other) (omega (arith, at.invariant.long))

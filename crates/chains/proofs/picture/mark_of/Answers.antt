@@ -1,4 +1,4 @@
--- `mark_of` asks the shape for the height of the row and for the two columns of the chain at that height; each answer is one law of Marked.
+-- `mark_of`: the height of a row of the shape is one of its heights.
 use borrow.Author.Rules.{rules}
 use Rattle.shape.specs.Place.{height}
 use Rattle.chains.proofs.picture.mark_of.Goals as goal

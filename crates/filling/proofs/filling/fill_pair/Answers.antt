@@ -5,13 +5,13 @@ use Rattle.filling.proofs.filling.fill_pair.Goals as goal
 
 pub solve-requires : goal.solve-requires
 solve-requires c =
-    let i = c.loop-left.invariant in
+    let i = c.loop-d.invariant in
     (fillable_ready _ _ _ _ i.0 _ (omega arith), c.requires.1)
 
-pub loop-left-preserved : goal.loop-left-preserved
-loop-left-preserved c =
+pub loop-d-preserved : goal.loop-d-preserved
+loop-d-preserved c =
     let f = c.solve.ensures in
-    let i = c.loop-left.invariant in (
+    let i = c.loop-d.invariant in (
       fillable_like _ _ _ _ _ f.0 i.0,
       omega arith,
       f.0 ∙ i.2,

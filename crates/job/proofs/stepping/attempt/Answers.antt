@@ -1,5 +1,6 @@
 -- `attempt`: the end of the input, a record that is none, or a whole one.
-use Rattle.std.proofs.Common.{ℕ, ◌+◌, ap, arith}
+use Rattle.std.proofs.Common.{ℕ, ◌+◌, ap, sym, ◌∙◌, arith}
+use Rattle.std.proofs.lemmas.Bool.{eqb-false}
 use Rattle.xor.proofs.TellsLaws.{told_no}
 use Rattle.records.specs.Record.{counted, kind_of}
 use Rattle.job.proofs.SteppingLaws.{framed, payload_is, step_framed}
@@ -25,6 +26,6 @@ returns c =
     let decided = c.decide-deed.ensures in (
       decided.0,
       λ clear zero.
-          step_framed _ a.input.now _ _ _ clear zero c.if-input-eq0.false (told_no c.unframed.ensures c.if-unframed.false) _ _ _ _ _
+          step_framed _ a.input.now _ _ _ clear zero (eqb-false _ _ (sym c.is_empty.ensures ∙ c.if-is_empty.false)) (told_no c.unframed.ensures c.if-unframed.false) _ _ _ _ _
           c.two_bytes-kind.ensures.0 after (payload_is a.input.now _ after) (decided.1 clear zero) c.made.ensures,
     )

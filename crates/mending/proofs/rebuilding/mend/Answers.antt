@@ -1,48 +1,50 @@
 -- `mend`: a rebuild of the stripe in the front of the buffer.
-use mathlib.Core.Path.{refl, sym, ap, ◌∙◌}
+use mathlib.Core.Path.{refl}
+use Rattle.std.proofs.lemmas.Result.{err_from_is_err_and}
+use Rattle.std.specs.Prelude.{Ok, Err}
 use Rattle.xor.proofs.TellsLaws.{told_no}
-use Rattle.answer.specs.declared.Answer.{Answer}
 use Rattle.answer.specs.Answers.{number}
-use Rattle.answer.proofs.AnswersLaws.{number_done, not_done}
-use Rattle.kinds.specs.Kinds.{rebuilding, kind_number, deed}
-use Rattle.kinds.proofs.ToldLaws.{told_14, told_13}
-use Rattle.kinds.proofs.HoldingLaws.{accepted_none, accepted_some, late}
+use Rattle.answer.proofs.AnswersLaws.{refused}
+use Rattle.kinds.specs.Kinds.{rebuilding, kind_number}
+use Rattle.kinds.proofs.ToldLaws.{told_13, deed_err, told_early}
+use Rattle.kinds.proofs.HoldingLaws.{asked_some, late}
 use Rattle.mending.proofs.MendingLaws.{lost_done, lost_refused, told_mend}
 use Rattle.mending.proofs.rebuilding.mend.Goals as goal
 
-pub returns-in_default : goal.returns-in_default
+pub returns-in_err-shape : goal.returns-in_err-shape
 unfolding kind_number
-returns-in_default c = (refl, λ clear zero. told_14 _ _ _ _ clear _ rebuilding (accepted_none _ _ c.accepted.ensures c.in_default.is) c.told.ensures)
+returns-in_err-shape c =
+    let p = err_from_is_err_and c.from_residual.result c.from_residual.ensures.1 in
+    (refl, λ clear zero. told_early rebuilding _ _ _ _ clear _ _ _ (λ z. z) c.accepted.ensures c.in_err-shape.ensures.value p)
 
 pub returns-then-miscounted : goal.returns-then-miscounted
-unfolding kind_number
+unfolding kind_number number
 returns-then-miscounted c =
-    let z = accepted_some _ _ _ c.accepted.ensures c.in-Some.is in
-    (refl, λ clear zero. told_13 _ _ _ _ clear _ rebuilding (late rebuilding _ _ z.0 z.1) (c.miscounted.ensures.yes c.if-miscounted.true) c.told-then-miscounted.ensures)
+    let z = asked_some _ _ _ _ c.accepted.ensures c.in_ok-shape.ensures.value in
+    (refl, λ clear zero. told_13 _ _ _ _ clear _ rebuilding (late rebuilding _ _ z.0 z.1) (c.miscounted.ensures.yes c.if-miscounted.true) refl)
 
-pub returns-in-Done : goal.returns-in-Done
-returns-in-Done c =
+pub returns-in_err-rebuild : goal.returns-in_err-rebuild
+returns-in_err-rebuild c =
     let a = c.args in
-    let z = accepted_some _ _ _ c.accepted.ensures c.in-Some.is in
+    let p = err_from_is_err_and c.from_residual-in_err-rebuild.result c.from_residual-in_err-rebuild.ensures.1 in
+    let z = asked_some _ _ _ _ c.accepted.ensures c.in_ok-shape.ensures.value in
     let right = told_no c.miscounted.ensures c.if-miscounted.false in
-    let count = c.byte_at-count in
-    let call = c.rebuild in
-    let done = c.in-Done.is in (
-      call.ensures.cleared.long,
-      told_mend _ _ z a.payload.now right a.stripe.now _ c.front-end.ensures _ _ _ _ _ _ count.ensures.0
-          c.byte_at.ensures.0 c.byte_at-2.ensures.0 _ c.named-lost.ensures
-          call.result call.ensures _ _ (lost_done _ _ ((number_done call.result).1 done)) (c.told-in-Done.ensures ∙ ap (λ (k : Answer). deed a.held (number k) count.result 0) (sym done)),
-    )
-
-pub returns-in_default-rebuild : goal.returns-in_default-rebuild
-returns-in_default-rebuild c =
-    let a = c.args in
-    let z = accepted_some _ _ _ c.accepted.ensures c.in-Some.is in
-    let right = told_no c.miscounted.ensures c.if-miscounted.false in
-    let count = c.byte_at-count in
     let call = c.rebuild in (
       call.ensures.cleared.long,
-      told_mend _ _ z a.payload.now right a.stripe.now _ c.front-end.ensures _ _ _ _ _ _ count.ensures.0
+      told_mend _ _ z a.payload.now right a.stripe.now _ c.front-end.ensures _ _ _ _ _ _ c.byte_at-count.ensures.0
           c.byte_at.ensures.0 c.byte_at-2.ensures.0 _ c.named-lost.ensures
-          call.result call.ensures _ _ (lost_refused _ _ (not_done call.result c.in_default-rebuild.not-Done)) c.told-in_default-rebuild.ensures,
+          (Err _) c.in_err-rebuild.ensures _ _ (lost_refused _ _ (refused {A = Unit {0}} {x = Err _} refl)) (deed_err _ _ _ _ p),
+    )
+
+pub returns : goal.returns
+unfolding number
+returns c =
+    let a = c.args in
+    let z = asked_some _ _ _ _ c.accepted.ensures c.in_ok-shape.ensures.value in
+    let right = told_no c.miscounted.ensures c.if-miscounted.false in
+    let call = c.rebuild in (
+      call.ensures.cleared.long,
+      told_mend _ _ z a.payload.now right a.stripe.now _ c.front-end.ensures _ _ _ _ _ _ c.byte_at-count.ensures.0
+          c.byte_at.ensures.0 c.byte_at-2.ensures.0 _ c.named-lost.ensures
+          (Ok tt) c.in_ok-rebuild.ensures _ _ (lost_done _ _ refl) refl,
     )

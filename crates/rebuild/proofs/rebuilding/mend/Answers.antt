@@ -2,7 +2,7 @@
 use mathlib.Core.Path.{refl, sym}
 use native.Mathlib.Omega.{arith}
 use borrow.Author.Tests.{not-true, not-false}
-use Rattle.answer.specs.Answers.{number}
+use Rattle.answer.specs.Answers.{refusal_number, number}
 use Rattle.xor.proofs.TellsLaws.{told_no}
 use Rattle.rebuild.proofs.MendingLaws.{mend_table, mend_led, mend_stageable, mend_patchable, mend_in_order, mend_disagree, mend_done}
 use Rattle.rebuild.proofs.rebuilding.mend.Goals as goal
@@ -24,7 +24,7 @@ agree-requires c =
 
 -- where they do not, nothing is written
 pub returns-then-not-agree : goal.returns-then-not-agree
-unfolding number
+unfolding number refusal_number
 returns-then-not-agree c =
     let x = c.read-x in
     let staged = c.stage.ensures in (
@@ -44,7 +44,7 @@ commit-requires c =
 
 -- and the stripe is then the one that solves
 pub returns : goal.returns
-unfolding number
+unfolding number refusal_number
 returns c =
     let x = c.read-x in
     let staged = c.stage.ensures in (

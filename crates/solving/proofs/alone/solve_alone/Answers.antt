@@ -30,9 +30,8 @@ loop-d-preserved c =
     let base = c.base_of.ensures in
     let place = c.place.ensures.at in (
       lone_like _ _ _ _ r _ own.long,
-      omega arith,
-      own.long ∙ i.2,
+      own.long ∙ i.1,
       λ v k.
           let u = solved_own _ _ v k _ _ r.side_is r.column (omega arith) _ _ _ c.chain_of-p.ensures.is (omega (arith, base, place)) l.out _ _ own (λ h. absurd (omega (arith, r.far))) in
-          (right_step _ _ _ _ r v _ (omega arith) _ u _ (omega arith) (i.3 v k).0, λ j o. kept_step _ _ _ _ r v _ (omega arith) _ u j o ∙ (i.3 v k).1 j o),
+          (right_step _ _ _ _ r v _ (omega arith) _ u _ (omega arith) (i.2 v k).0, λ j o. kept_step _ _ _ _ r v _ (omega arith) _ u j o ∙ (i.2 v k).1 j o),
     )

@@ -1,6 +1,6 @@
--- `solve_alone`. The invariant: the symbols from height d on are solved, and nothing outside of the column is touched. The measure: the heights to go.
+-- `solve_alone`: the symbols from height d on are solved, and nothing outside of the column is touched.
 use mathlib.Core.Path.{◌≡◌}
-use Prim.Native.Nat.{ℕ, ◌≤◌}
+use Prim.Native.Nat.{ℕ}
 use lib.ListN.{length}
 use Rattle.solving.specs.Outer.{Solved}
 use Rattle.solving.specs.Alone.{Lone, Kept}
@@ -10,9 +10,5 @@ use Rattle.solving.proofs.alone.solve_alone.Given as goal
 abbrev pub invariant-loop-d : goal.invariant-loop-d
 invariant-loop-d l =
     Lone l.x l.side l.s l.out
-    × (l.d ≤ l.x.shape.m)
     × (length l.out ≡ length l.initial.out)
     × ((v : ℕ → ℕ → ℕ → ℕ) → Solved l.x l.s v → RightFrom l.x v l.side l.d l.out × Kept l.x l.side l.initial.out l.out)
-
-abbrev pub decreases-loop-d : goal.decreases-loop-d
-decreases-loop-d l = l.d

@@ -1,8 +1,7 @@
--- `four`: two halves of 16 bits fit 32.
-use native.Mathlib.Omega.{arith}
-use Rattle.v2calls.specs.Little.{four}
+-- `four`: what is read of the four bytes is their number.
+use mathlib.Core.Path.{◌∙◌}
+use Rattle.v2calls.proofs.LittleLaws.{four_read}
 use Rattle.v2calls.proofs.heading.four.Goals as goal
 
 pub returns : goal.returns
-unfolding four
-returns c = omega arith
+returns c = (c.from_le_bytes.ensures ∙ four_read _ _ _ c.get.ensures.at, c.from_le_bytes.type_inv)

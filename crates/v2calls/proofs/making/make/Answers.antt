@@ -1,38 +1,48 @@
-use mathlib.Core.Path.{◌≡◌, refl, sym}
-use Prim.Native.Nat.{ℕ, ◌+◌, ◌≤◌}
-use native.Mathlib.Omega.{arith}
+-- `make`: each arm is the call of its number; choose and column only hand out.
+use mathlib.Core.Path.{refl, sym, ap}
 use Rattle.answer.specs.Answers.{number}
+use Rattle.v2calls.specs.Calls.{call_number}
 use Rattle.v2calls.specs.Told.{Makes}
+use Rattle.v2calls.proofs.CallLaws.{handing}
 use Rattle.v2calls.proofs.making.make.Goals as goal
 
--- `make`: each arm is the call of its number; past the arms stand 8 and 9, which only hand out.
--- a number that is not k is above it
-past : (k x : ℕ) → k ≤ x → ¬ (x ≡ k) → k + 1 ≤ x
-past k x h n = omega arith
+pub returns-in-Encode : goal.returns-in-Encode
+unfolding call_number
+returns-in-Encode c = Makes.encodes c.encode.result (ap call_number c.in-Encode.is) c.encode.ensures refl c.answered.ensures
 
-past-seven : (x : ℕ) → 1 ≤ x → ¬ (x ≡ 1) → ¬ (x ≡ 2) → ¬ (x ≡ 3) → ¬ (x ≡ 4) → ¬ (x ≡ 5) → ¬ (x ≡ 6) → ¬ (x ≡ 7) → 8 ≤ x
-past-seven x h one two three four five six seven = past 7 x (past 6 x (past 5 x (past 4 x (past 3 x (past 2 x (past 1 x h one) two) three) four) five) six) seven
+pub returns-in-Check : goal.returns-in-Check
+unfolding call_number
+returns-in-Check c = Makes.checks (ap call_number c.in-Check.is) c.checked.ensures refl refl
 
-under-ten : (x : ℕ) → x ≤ 11 → ¬ (x ≡ 10) → ¬ (x ≡ 11) → x ≤ 9
-under-ten x h ten eleven = omega arith
+pub returns-in-Locate : goal.returns-in-Locate
+unfolding call_number
+returns-in-Locate c = Makes.locates (ap call_number c.in-Locate.is) c.located.ensures refl refl
 
-pub returns-in-1 : goal.returns-in-1
-returns-in-1 c =
-    Makes.encodes c.encode.result (omega arith) c.encode.ensures refl c.answered.ensures
+pub returns-in-SmallWrite : goal.returns-in-SmallWrite
+unfolding call_number
+returns-in-SmallWrite c = Makes.writes c.small_write.result (ap call_number c.in-SmallWrite.is) c.small_write.ensures refl c.answered-in-SmallWrite.ensures
 
-pub returns-in-4 : goal.returns-in-4
-returns-in-4 c =
-    Makes.writes c.small_write.result (omega arith) c.small_write.ensures refl c.answered-in-4.ensures
+pub returns-in-RawStore : goal.returns-in-RawStore
+unfolding call_number
+returns-in-RawStore c = Makes.stores c.raw_store.result (ap call_number c.in-RawStore.is) c.raw_store.ensures refl c.answered-in-RawStore.ensures
 
-pub returns-in-5 : goal.returns-in-5
-returns-in-5 c =
-    Makes.stores c.raw_store.result (omega arith) c.raw_store.ensures refl c.answered-in-5.ensures
+pub returns-in-Rebuild : goal.returns-in-Rebuild
+unfolding call_number
+returns-in-Rebuild c = Makes.rebuilds (ap call_number c.in-Rebuild.is) c.rebuilt.ensures
 
-pub returns-in-7 : goal.returns-in-7
-returns-in-7 c =
-    Makes.fills c.fill.result (omega arith) (rw (sym c.named.ensures) c.fill.ensures) refl c.answered-in-7.ensures
+pub returns-in-Fill : goal.returns-in-Fill
+unfolding call_number
+returns-in-Fill c = Makes.fills c.fill.result (ap call_number c.in-Fill.is) (rw (sym c.named.ensures) c.fill.ensures) refl c.answered-in-Fill.ensures
 
-pub returns-in_default : goal.returns-in_default
+pub returns-in-Choose : goal.returns-in-Choose
 unfolding number
-returns-in_default c = let r = c.in_default.in_default-own.rest in
-    Makes.hands (past-seven _ c.requires.0 r.0.0.0.0.0.0.0.0.1 r.0.0.0.0.0.0.0.1 r.0.0.0.0.0.0.1 r.0.0.0.0.0.1 r.0.0.0.0.1 r.0.0.0.1 r.0.0.1) (under-ten _ c.requires.1 r.0.1 r.1) refl refl c.answered-in_default.ensures
+returns-in-Choose c =
+    let (low, high) = handing _ c.in-Choose.is in Makes.hands low high refl refl c.answered-in-Choose.ensures
+
+pub returns-in-Prices : goal.returns-in-Prices
+unfolding call_number
+returns-in-Prices c = Makes.prices (ap call_number c.in-Prices.is) c.priced.ensures refl refl
+
+pub returns-in-Stock : goal.returns-in-Stock
+unfolding call_number
+returns-in-Stock c = Makes.stocks (ap call_number c.in-Stock.is) c.stocked.ensures refl refl
