@@ -10,7 +10,7 @@ ghost use Rattle.listing.specs.Places.{Table};
 ghost use Rattle.agreeing.specs.Agreeing.{distance, past, Uses, Holds, Patchable, InOrder, Agreed};
 
 use matching::matches;
-use shape::Shape;
+use shape::{Shape, Stripe};
 use solving::Gone;
 use sourcing::sources;
 use standing::all_even;
@@ -90,12 +90,12 @@ fn holds<'a>(s: &'a [u8], out: &'a [u8], table: &[u16; 32], x: Gone, p: usize, d
     requires { (Patchable x s.now out.now) × (p < x.shape.n) × (¬ Uses x p) × (Table x.shape table.now) × (d ≡ distance x.shape x.first p) }
     ensures { Tells (Holds x s.now out.now p) result }
 {
-    let sh = x.shape;
-    let h = apart(sh, p, x.second);
-    if d < sh.m || h < sh.m {
+    let shape = x.shape;
+    let h = apart(shape, p, x.second);
+    if d < shape.m || h < shape.m {
         return agrees(s, out, table, x, p, d, h);
     }
-    all_even(sh, s, p, 1)
+    all_even(Stripe { shape, bytes: s }, p, 1)
 }
 
 // Whether the chains that are less than `end` up from first hold.
@@ -129,14 +129,16 @@ pub fn agree<'a>(s: &'a [u8], out: &'a [u8], table: &[u16; 32], x: Gone) -> bool
     requires { (Patchable x s.now out.now) × (Table x.shape table.now) × (InOrder x) }
     ensures { Tells (Agreed x s.now out.now) result }
 {
-    let sh = x.shape;
-    if sh.n <= x.first {
-        return all_even(sh, s, 0, sh.n);
+    let shape = x.shape;
+    let stripe = Stripe { shape, bytes: s };
+    if shape.n <= x.first {
+        return all_even(stripe, 0, shape.n);
     }
-    let end = apart(sh, x.first, x.second);
+    let end = apart(shape, x.first, x.second);
     if !between(s, out, table, x, end) {
         return false;
     }
     let from = beyond(x, end);
-    all_even(sh, s, above(sh.n, x.first, from), sh.n + 1 - sh.m - from)
+    let start = above(shape.n, x.first, from);
+    all_even(stripe, start, shape.n + 1 - shape.m - from)
 }

@@ -65,7 +65,8 @@ pub fn get<const LEN: usize>(s: &[u8], at: usize) -> [u8; LEN]
     acc
 }
 
-// Stores a block into s from `at` on; whoever calls it stays within the slice. (Not `copy_from_slice`, which asks whether the two overlap.)
+// Stores a block into s from `at` on; whoever calls it stays within the slice. (Not `copy_from_slice`, which asks
+// whether the two overlap.)
 pub fn put<const LEN: usize>(acc: &[u8; LEN], s: &mut [u8], at: usize)
     requires { at + LEN ≤ length s.old }
     ensures { Spanned (λ t. get_or acc.now t 0) s.old s.new at LEN }

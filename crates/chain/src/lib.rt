@@ -1,5 +1,6 @@
 // Along a chain: the XOR of its symbols, a block at a time and in registers.
-// Every call that computes a parity goes through `others` or `difference`; nothing else walks a chain.
+// Encode, check, locate and the test of a chain that holds nothing lost go by `others` or `difference`; rebuild and
+// fill go by lists of places.
 #![tactic(auto)]
 
 ghost use Rattle.std.specs.Prelude.{◌≡◌, ℕ, ◌+◌, length};
@@ -12,7 +13,8 @@ ghost use Rattle.chain.specs.Chain.{Part, Ran};
 use shape::Shape;
 use walking::Walk;
 
-// Adds into acc the two symbols of each height from start to end - 1, in the columns l and r at height `base` and a column further apart each height.
+// Adds into acc the two symbols of each height from start to end - 1, in the columns l and r at height `base` and a
+// column further apart each height.
 fn run<const LEN: usize>(
     acc: &mut [u8; LEN],
     sh: Shape,
@@ -50,8 +52,8 @@ fn below<const LEN: usize>(acc: &mut [u8; LEN], s: &[u8], wk: Walk, from: usize)
     run(acc, wk.shape, s, wk.l, wk.r, wk.end, from, wk.end, wk.top);
 }
 
-// The XOR of the information symbols of a chain: their bytes from `from` on; whoever calls it stays within the stripe and its symbols.
-// The hint keeps the block in registers where it is stored.
+// The XOR of the information symbols of a chain: their bytes from `from` on; whoever calls it stays within the stripe
+// and its symbols. The hint keeps the block in registers where it is stored.
 #[inline]
 pub fn others<const LEN: usize>(s: &[u8], wk: Walk, from: usize) -> [u8; LEN]
     requires { Part wk.shape s.now from LEN }
@@ -62,7 +64,8 @@ pub fn others<const LEN: usize>(s: &[u8], wk: Walk, from: usize) -> [u8; LEN]
     acc
 }
 
-// What a chain differs by, stored XOR computed parity: as `others`, with the parity symbol added before the heights below the top.
+// What a chain differs by, stored XOR computed parity: as `others`, with the parity symbol added before the heights
+// below the top.
 #[inline(always)]
 pub fn difference<const LEN: usize>(s: &[u8], wk: Walk, from: usize) -> [u8; LEN]
     requires { Part wk.shape s.now from LEN }

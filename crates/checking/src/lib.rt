@@ -3,7 +3,7 @@
 #![tactic(auto)]
 
 ghost use Rattle.std.specs.Prelude.{◌≡◌, ◌+◌, ◌*◌, ◌≤◌, ◌<◌, length, Ok};
-ghost use Rattle.shape.specs.Good.{Good, size};
+ghost use Rattle.shape.specs.Good.{size};
 ghost use Rattle.chain.specs.Chain.{Part};
 ghost use Rattle.checking.specs.Check.{Check};
 ghost use Rattle.checking.specs.Bits.{Counts, Chain, Bits};
@@ -11,7 +11,7 @@ ghost use Rattle.checking.specs.Bits.{Counts, Chain, Bits};
 use answer::Refusal;
 use block::LONGEST;
 use chain::difference;
-use shape::Shape;
+use shape::{Shape, Stripe};
 use walking::{Walk, along};
 
 // What check reports: how many chains are broken, and by how many bits in all.
@@ -53,44 +53,42 @@ fn tally_some(bits: &mut u16, s: &[u8], wk: Walk, from: usize, left: usize) -> u
 }
 
 // How many bits chain p differs by.
-fn chain_bits(sh: Shape, s: &[u8], p: usize) -> u16
-    requires { (Good sh) × (length s.now ≡ size sh) × (p < sh.n) }
-    ensures { Chain sh s.now p result }
+fn chain_bits(stripe: Stripe, p: usize) -> u16
+    requires { p < stripe.shape.n }
+    ensures { Chain stripe.entry.shape stripe.entry.bytes.now p result }
 {
-    let wk = along(sh, p);
+    let wk = along(stripe.shape, p);
     let mut bits = 0;
     let mut from = 0;
-    let mut left = sh.w;
+    let mut left = stripe.shape.w;
     // Not a `for`: each turn goes on by as many bytes as it counted.
     while 0 < left {
-        let some = tally_some(&mut bits, s, wk, from, left);
+        let some = tally_some(&mut bits, stripe.bytes, wk, from, left);
         from += some;
         left -= some;
     }
     bits
 }
 
-// How many bits each chain differs by; whoever calls it has had `accept_stripe` answer Ok.
-pub fn bits_by_chain(shape: Shape, stripe: &[u8]) -> [u16; 64]
-    requires { (Good shape) × (length stripe.now ≡ size shape) }
-    ensures { Bits shape stripe.now result }
+// How many bits each chain differs by.
+pub fn bits_by_chain(stripe: Stripe) -> [u16; 64]
+    ensures { Bits stripe.entry.shape stripe.entry.bytes.now result }
 {
     let mut bits = [0; 64];
-    for p in 0..shape.n {
-        bits[p] = chain_bits(shape, stripe, p);
+    for p in 0..stripe.shape.n {
+        bits[p] = chain_bits(stripe, p);
     }
     bits
 }
 
 // The report of a stripe that is not refused: a chain is broken where its bits are not 0.
-fn counted(shape: Shape, stripe: &[u8]) -> Checked
-    requires { (Good shape) × (length stripe.now ≡ size shape) }
-    ensures { Check shape stripe.now (Ok result) }
+fn counted(stripe: Stripe) -> Checked
+    ensures { Check stripe.entry.shape stripe.entry.bytes.now (Ok result) }
 {
-    let by_chain = bits_by_chain(shape, stripe);
+    let by_chain = bits_by_chain(stripe);
     let mut broken = 0;
     let mut bits = 0;
-    for &differing in &by_chain[..shape.n] {
+    for &differing in &by_chain[..stripe.shape.n] {
         if differing != 0 {
             broken += 1;
         }
@@ -103,6 +101,5 @@ fn counted(shape: Shape, stripe: &[u8]) -> Checked
 pub fn check(shape: Shape, stripe: &[u8]) -> Result<Checked, Refusal>
     ensures { Check shape stripe.now result }
 {
-    shape.accept_stripe(stripe)?;
-    Ok(counted(shape, stripe))
+    Ok(counted(shape.stripe(stripe)?))
 }

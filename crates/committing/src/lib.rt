@@ -36,7 +36,8 @@ fn store_one(stripe: &mut [u8], work: &[u8], x: Gone, k: usize)
     }
 }
 
-// Makes the first `count` stores of the commit; whoever calls it has the lost columns staged, and asks for no more stores than there are.
+// Makes the first `count` stores of the commit; whoever calls it has the lost columns staged, and asks for no more
+// stores than there are.
 pub fn commit(stripe: &mut [u8], work: &[u8], x: Gone, count: usize)
     requires { (Stageable x stripe.old work.now) × (Led x) × (count ≤ stores_in_all x) }
     ensures { Made x work.now count stripe.old stripe.new }

@@ -1,5 +1,6 @@
 // Encode: every parity symbol by the rule, chain after chain.
-// A chain goes by blocks of literal lengths, so that the compiler keeps each in registers: whole blocks in a loop of their own, then the tail.
+// A chain goes by blocks of literal lengths, so that the compiler keeps each in registers: whole blocks in a loop of
+// their own, then the tail.
 #![tactic(auto)]
 
 ghost use Rattle.std.specs.Prelude.{◌≡◌, ◌+◌, ◌%◌, ◌≤◌, ◌<◌, length};
@@ -24,7 +25,8 @@ fn encode_part<const LEN: usize>(stripe: &mut [u8], wk: Walk, from: usize) -> us
     LEN
 }
 
-// Sets the first `whole` bytes of that parity symbol, a number of whole blocks.
+// Sets the first `whole` bytes of that parity symbol, a number of whole blocks. (Not `for`, which costs more
+// instructions a block.)
 fn encode_blocks(stripe: &mut [u8], wk: Walk, whole: usize)
     requires sized { length stripe.old ≡ size wk.shape }
     requires inside { whole ≤ wk.shape.w }
@@ -50,7 +52,7 @@ fn encode_some(stripe: &mut [u8], wk: Walk, from: usize) -> usize
     }
 }
 
-// Sets the bytes of that parity symbol from `start` on.
+// Sets the bytes of that parity symbol from `start` on. (Not `for`: the step varies.)
 fn encode_tail(stripe: &mut [u8], wk: Walk, start: usize)
     requires sized { length stripe.old ≡ size wk.shape }
     requires inside { start ≤ wk.shape.w }

@@ -6,7 +6,8 @@ use handing::column;
 use rule::{Losses, is_lost};
 use shape::Shape;
 
-// The wanted column in the stripe if it survives, or else the first m·w bytes of the answer buffer; a part of length 0 where fill is refused.
+// The wanted column in the stripe if it survives, or else the first m·w bytes of the answer buffer; a part of length
+// 0 where fill is refused.
 pub fn choose<'a>(
     shape: Shape,
     stripe: &'a [u8],

@@ -51,20 +51,17 @@ fn side_of(x: Gone, wanted: usize) -> Option<usize>
     None
 }
 
-// The same lost columns in one column's room, a side's column at its start: a symbol that is asked for stands where the one that asks for it will.
+// The same lost columns in one column's room, a side's column at its start: a symbol that is asked for stands where
+// the one that asks for it will.
 fn narrow(x: Gone, side: usize) -> Gone
     requires { (side ≤ 1) × (x.walk ≤ 64) × (x.shape.w ≤ 4096) }
     ensures { result ≡ narrowed x side }
 {
-    let shape = x.shape;
-    let behind = x.walk * shape.w;
+    let behind = x.walk * x.shape.w;
     Gone {
-        shape: shape,
-        first: x.first,
-        second: x.second,
-        walk: x.walk,
         one: side * behind,
         two: (1 - side) * behind,
+        ..x
     }
 }
 
@@ -80,7 +77,8 @@ fn solve(s: &[u8], out: &mut [u8], table: &[u16; 32], x: Gone, side: usize, d: u
     }
 }
 
-// Solves a side's column where it asks for the other's. The way from a symbol comes back to its side two walks higher, so the starts are the heights below two walks.
+// Solves a side's column where it asks for the other's. The way from a symbol comes back to its side two walks
+// higher, so the starts are the heights below two walks.
 fn fill_pair(s: &[u8], out: &mut [u8], table: &[u16; 32], x: Gone, side: usize)
     requires { (Fillable x side s.now out.old) × (Table x.shape table.now) }
     ensures { (length out.new ≡ length out.old) × ((v : ℕ → ℕ → ℕ → ℕ) → Solved x s.now v → ColumnIn x v side out.old out.new) }
@@ -103,7 +101,8 @@ fn fill_column(s: &[u8], out: &mut [u8], x: Gone, side: usize)
     }
 }
 
-// Puts a lost column into the first m·w bytes of the answer buffer; the rest of it, and all of it where the column survives, stays as it is.
+// Puts a lost column into the first m·w bytes of the answer buffer; the rest of it, and all of it where the column
+// survives, stays as it is.
 pub fn fill(shape: Shape, stripe: &[u8], lost: Losses, wanted: usize, answer: &mut [u8]) -> Answer
     ensures { Fill shape stripe.now lost wanted answer.old result answer.new }
 {

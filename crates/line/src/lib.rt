@@ -1,4 +1,5 @@
-// A line of the job program, and the line as text: its fields in decimal, with a space between them and a newline at the end.
+// A line of the job program, and the line as text: its fields in decimal, with a space between them and a newline at
+// the end.
 #![tactic(auto)]
 
 ghost use Rattle.std.specs.Prelude.{◌+◌, ◌≤◌, length};
@@ -31,8 +32,8 @@ fn put(number: usize, mark: u8, out: &mut [u8], at: usize) -> usize
     end + 1
 }
 
-// Writes a line at the start of `out`, and gives how many bytes that is; the rest of `out` is as it was. Where the longest line does not fit, nothing is
-// written.
+// Writes a line at the start of `out`, and gives how many bytes that is; the rest of `out` is as it was. Where the
+// longest line does not fit, nothing is written.
 pub fn print(line: Line, out: &mut [u8]) -> usize
     ensures { Printed line out.old result out.new }
 {

@@ -7,12 +7,13 @@ use Prim.Native.Nat.{ℕ, ◌+◌, ◌-◌, ◌%◌, ◌≤◌, ◌<◌}
 use native.Mathlib.Omega.{arith}
 use native.Mathlib.Decide.{dec_lt}
 use lib.Count.{ones}
+use lib.ListN.{length}
 use Rattle.xor.specs.Tells.{Tells}
 use Rattle.xor.proofs.TotalLaws.{total_zero, total_same}
 use Rattle.looking.proofs.OnesLaws.{ones_zero, ones_none, total_clear}
 use Rattle.xor.proofs.TellsLaws.{tells_false}
 use Rattle.shape.specs.declared.Shape.{Shape}
-use Rattle.shape.specs.Good.{Good}
+use Rattle.shape.specs.Good.{Good, size}
 use Rattle.shape.specs.Step.{left, right}
 use Rattle.shape.proofs.StepLaws.{Reach, turn, back, far, left_is, right_is}
 use Rattle.shape.proofs.GoodLaws.{good_m, good_room}
@@ -21,7 +22,7 @@ use Rattle.rule.specs.Losses.{Bytes}
 use Rattle.rule.proofs.RuleLaws.{obeys_differs}
 use Rattle.checking.specs.Bits.{Chain, Bits}
 use Rattle.locating.specs.Locate.{Explains, Mends, Names}
-use Rattle.locating.specs.Locating.{Sized, Level, Compares, Holds, Alike, Apart, Unbroken, Within, Searched}
+use Rattle.locating.specs.Locating.{Level, Compares, Holds, Alike, Apart, Unbroken, Within, Searched}
 use Rattle.locating.proofs.Explains.{explains_is_mends}
 
 -- the two chains that were asked of, under other names
@@ -120,9 +121,9 @@ module _ (sh : Shape) (s : List ℕ) where
     pub names_sound : Unbroken sh xs → Names sh s (0, 0)
     names_sound un = inl (refl, (obeys_differs sh s).1 (λ p t hp ht. bits_holds p _ (bits.at p hp) (un p hp) t ht))
 
-    module _ (sized : Sized sh s) (bytes : Bytes s) (bad : ¬ Unbroken sh xs) where
+    module _ (good : Good sh) (whole : length s ≡ size sh) (bytes : Bytes s) (bad : ¬ Unbroken sh xs) where
       mends : (c : ℕ) → c < sh.n → Explains sh s c ↔ Mends sh s c
-      mends c hc = explains_is_mends sh (good_m sh sized.good) (good_room sh sized.good) s sized.whole c hc bytes
+      mends c hc = explains_is_mends sh (good_m sh good) (good_room sh good) s whole c hc bytes
 
       pub names_searched : (x : ℕ × ℕ) → Searched sh s x → Names sh s x
       names_searched x (inl h) = inr (inl (h.0, (λ ob. bad (obeys_unbroken ob)), (mends x.1 h.1).0 h.2))

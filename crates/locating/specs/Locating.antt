@@ -1,16 +1,10 @@
 -- WHAT LOCATE ASKS ON ITS WAY: of a chain, of two chains, of a column. Definitions only.
-use Rattle.std.specs.Prelude.{◌≡◌, ◌≢◌, ◌⊎◌, Bool, true, List, ℕ, ◌≤◌, ◌<◌, length, get_or}
+use Rattle.std.specs.Prelude.{◌≡◌, ◌≢◌, ◌⊎◌, Bool, true, List, ℕ, ◌≤◌, ◌<◌, get_or}
 use Rattle.xor.specs.Tells.{Tells}
 use Rattle.shape.specs.declared.Shape.{Shape}
-use Rattle.shape.specs.Good.{Good, size}
 use Rattle.shape.specs.Step.{left, right}
 use Rattle.rule.specs.Rule.{differs}
 use Rattle.locating.specs.Locate.{Explains}
-
--- a stripe of a good shape
-pub record Sized (sh : Shape) (s : List ℕ) : Type 0 where
-  pub good : Good sh
-  pub whole : length s ≡ size sh
 
 -- bytes lo to hi - 1 of chains p and q differ alike; and y says whether they do and x was yes before them
 abbrev pub Level : Shape → List ℕ → ℕ → ℕ → ℕ → ℕ → Type 0

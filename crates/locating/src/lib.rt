@@ -9,13 +9,13 @@ ghost use Rattle.shape.specs.Step.{left, right};
 ghost use Rattle.chain.specs.Chain.{Part};
 ghost use Rattle.checking.specs.Bits.{Bits};
 ghost use Rattle.locating.specs.Locate.{Locate, found};
-ghost use Rattle.locating.specs.Locating.{Sized, Compares, Alike, Apart, Unbroken, Within, Searched};
+ghost use Rattle.locating.specs.Locating.{Compares, Alike, Apart, Unbroken, Within, Searched};
 
 use answer::Refusal;
 use block::LONGEST;
 use chain::difference;
 use checking::bits_by_chain;
-use shape::Shape;
+use shape::{Shape, Stripe};
 use walking::{Walk, along};
 
 // What locate finds.
@@ -74,17 +74,17 @@ fn level_some(same: &mut bool, s: &[u8], wk: Walk, other: Walk, from: usize) -> 
 }
 
 // Whether chains p and q differ by the same bytes.
-fn alike(shape: Shape, s: &[u8], p: usize, q: usize) -> bool
-    requires { (Sized shape s.now) × (p < shape.n) × (q < shape.n) }
-    ensures { Tells (Alike shape s.now p q) result }
+fn alike(stripe: Stripe, p: usize, q: usize) -> bool
+    requires { (p < stripe.shape.n) × (q < stripe.shape.n) }
+    ensures { Tells (Alike stripe.entry.shape stripe.entry.bytes.now p q) result }
 {
-    let wk = along(shape, p);
-    let other = along(shape, q);
+    let wk = along(stripe.shape, p);
+    let other = along(stripe.shape, q);
     let mut same = true;
     let mut from = 0;
     // Not a `for`: each turn goes on by as many bytes as it compared.
-    while from < shape.w {
-        from += level_some(&mut same, s, wk, other, from);
+    while from < stripe.shape.w {
+        from += level_some(&mut same, stripe.bytes, wk, other, from);
     }
     same
 }
@@ -128,39 +128,39 @@ fn within(shape: Shape, bits: &[u16; 64], c: usize) -> bool
 }
 
 // Whether the chains of height d on either side of column c differ by the same bytes.
-fn paired(shape: Shape, s: &[u8], bits: &[u16; 64], c: usize, d: usize) -> bool
-    requires { (Sized shape s.now) × (Bits shape s.now bits.now) × (c < shape.n) × (d < shape.m) }
-    ensures { Tells (Alike shape s.now (left shape.n c d) (right shape.n c d)) result }
+fn paired(stripe: Stripe, bits: &[u16; 64], c: usize, d: usize) -> bool
+    requires { (Bits stripe.shape stripe.bytes.now bits.now) × (c < stripe.shape.n) × (d < stripe.shape.m) }
+    ensures { Tells (Alike stripe.entry.shape stripe.entry.bytes.now (left stripe.entry.shape.n c d) (right stripe.entry.shape.n c d)) result }
 {
-    let p = shape.left(c, d);
-    let q = shape.right(c, d);
+    let p = stripe.shape.left(c, d);
+    let q = stripe.shape.right(c, d);
     if bits[p] != bits[q] {
         return false;
     }
     if bits[p] == 0 {
         return true;
     }
-    alike(shape, s, p, q)
+    alike(stripe, p, q)
 }
 
 // The first column that explains every difference, or Several.
-fn search(shape: Shape, s: &[u8], bits: &[u16; 64]) -> Damage
-    requires { (Sized shape s.now) × (Bits shape s.now bits.now) }
-    ensures { Searched shape s.now (found result) }
+fn search(stripe: Stripe, bits: &[u16; 64]) -> Damage
+    requires { Bits stripe.shape stripe.bytes.now bits.now }
+    ensures { Searched stripe.entry.shape stripe.entry.bytes.now (found result) }
 {
     let mut next = 0;
     // A `loop` that breaks out with its value is how document 01 has the search over columns.
     'columns: loop {
-        if shape.n <= next {
+        if stripe.shape.n <= next {
             break 'columns Damage::Several;
         }
         let c = next;
         next += 1;
-        if !within(shape, bits, c) {
+        if !within(stripe.shape, bits, c) {
             continue 'columns;
         }
-        for d in 1..shape.m {
-            if !paired(shape, s, bits, c, d) {
+        for d in 1..stripe.shape.m {
+            if !paired(stripe, bits, c, d) {
                 continue 'columns;
             }
         }
@@ -172,10 +172,10 @@ fn search(shape: Shape, s: &[u8], bits: &[u16; 64]) -> Damage
 pub fn locate(shape: Shape, stripe: &[u8]) -> Result<Damage, Refusal>
     ensures { Locate shape stripe.now result }
 {
-    shape.accept_stripe(stripe)?;
-    let bits = bits_by_chain(shape, stripe);
-    if unbroken(shape, &bits) {
+    let stripe = shape.stripe(stripe)?;
+    let bits = bits_by_chain(stripe);
+    if unbroken(stripe.shape, &bits) {
         return Ok(Damage::Sound);
     }
-    Ok(search(shape, stripe, &bits))
+    Ok(search(stripe, &bits))
 }

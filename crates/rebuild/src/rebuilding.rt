@@ -36,7 +36,8 @@ fn attempt(shape: Shape, lost: Losses, stripe: &mut [u8], work: &mut [u8]) -> An
     mend(shape, lost, stripe, work, &listing::table(shape))
 }
 
-// Writes the lost columns of a stripe from its survivors, if they agree. The workspace is all zero after it, under every answer.
+// Writes the lost columns of a stripe from its survivors, if they agree. The workspace is all zero after it, under
+// every answer.
 pub fn rebuild(shape: Shape, lost: Losses, stripe: &mut [u8], work: &mut [u8]) -> Answer
     ensures { Rebuild shape lost stripe.old (length work.old) result stripe.new work.new }
 {

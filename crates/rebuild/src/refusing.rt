@@ -6,7 +6,8 @@ use answer::{Answer, Refusal};
 use rule::{Losses, beyond, twice};
 use shape::Shape;
 
-// Asks what a rebuild with a workspace of `room` bytes asks before its survivors: the first of the refusals 1 to 7 that applies refuses it.
+// Asks what a rebuild with a workspace of `room` bytes asks before its survivors: the first of the refusals 1 to 7
+// that applies refuses it.
 pub(crate) fn accept(shape: Shape, lost: Losses, stripe: &[u8], room: usize) -> Answer
     ensures { First (early_table shape lost stripe.now room) (number result) }
 {

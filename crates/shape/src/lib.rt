@@ -1,8 +1,8 @@
 // The shape record of a stripe: which shapes are good, where each symbol stands, which columns a chain goes through.
 #![tactic(auto)]
 
-ghost use Rattle.std.specs.Prelude.{◌≡◌, ◌-◌, ◌<◌};
-ghost use Rattle.shape.specs.Good.{Good};
+ghost use Rattle.std.specs.Prelude.{◌≡◌, ◌-◌, ◌<◌, length, IfOk};
+ghost use Rattle.shape.specs.Good.{Good, size};
 ghost use Rattle.answer.specs.Answers.{First, number};
 ghost use Rattle.shape.specs.Refusals.{shape_table, stripe_table};
 ghost use Rattle.shape.specs.Place.{height, row, slot};
@@ -37,6 +37,15 @@ pub struct Shape {
     pub w: usize,
 }
 
+// A stripe to be read: bytes of a good shape, as many as it says.
+#[derive(Clone, Copy)]
+pub struct Stripe<'a> {
+    pub shape: Shape,
+    pub bytes: &'a [u8],
+    ghost good: { Good shape },
+    ghost whole: { length bytes.now ≡ size shape },
+}
+
 impl Shape {
     // Asks of the shape by itself: the first of BadRows, BadColumns and BadSymbol that applies refuses it.
     pub fn accept(self) -> Answer
@@ -67,7 +76,8 @@ impl Shape {
         Ok(())
     }
 
-    // Asks of the shape and of the length of a stripe: the first of BadRows, BadColumns, BadSymbol and BadStripe that applies refuses them.
+    // Asks of the shape and of the length of a stripe: the first of BadRows, BadColumns, BadSymbol and BadStripe that
+    // applies refuses them.
     pub fn accept_stripe(self, stripe: &[u8]) -> Answer
         ensures { First (stripe_table self stripe.now) (number result) }
     {
@@ -76,6 +86,15 @@ impl Shape {
             return Err(Refusal::BadStripe);
         }
         Ok(())
+    }
+
+    // These bytes as a stripe of the shape; refused as by `accept_stripe`.
+    pub fn stripe<'a>(self, bytes: &'a [u8]) -> Result<Stripe<'a>, Refusal>
+        ensures table { First (stripe_table self bytes.entry.now) (number result) }
+        ensures given { IfOk result (λ stripe. (stripe.shape ≡ self) × (stripe.bytes ≡ bytes.entry)) }
+    {
+        self.accept_stripe(bytes)?;
+        Ok(Stripe { shape: self, bytes })
     }
 
     // Of m, number k counted from the other end: rows go down and heights go up. 0 where k is m or more.
@@ -103,7 +122,8 @@ impl Shape {
         self.mirrored(height)
     }
 
-    // Which symbol of its column has this height, counted from the start of the column; whoever calls it asks for a height of the shape.
+    // Which symbol of its column has this height, counted from the start of the column; whoever calls it asks for a
+    // height of the shape.
     pub fn slot(self, height: usize) -> usize
         requires { height < self.m }
         ensures { result ≡ slot self height }
@@ -127,7 +147,8 @@ impl Shape {
         self.m * self.n * self.w
     }
 
-    // Where the symbol of a height in a column starts; whoever calls it has had `accept` answer Ok, and asks within the shape.
+    // Where the symbol of a height in a column starts; whoever calls it has had `accept` answer Ok, and asks within
+    // the shape.
     pub fn place(self, height: usize, column: usize) -> usize
         requires { (Good self) × (height < self.m) × (column < self.n) }
         ensures { Placed self height column result }
@@ -135,7 +156,8 @@ impl Shape {
         column * self.column_length() + self.slot(height) * self.w
     }
 
-    // The column as many steps to the left as the height says; whoever calls it has had `accept` answer Ok, and asks within the shape.
+    // The column as many steps to the left as the height says; whoever calls it has had `accept` answer Ok, and asks
+    // within the shape.
     pub fn left(self, column: usize, height: usize) -> usize
         requires { (Good self) × (column < self.n) × (height < self.m) }
         ensures { Stepped self.n (left self.n column height) result }
@@ -144,7 +166,8 @@ impl Shape {
         (column + (n - height)) % n
     }
 
-    // The column as many steps to the right as the height says; whoever calls it has had `accept` answer Ok, and asks within the shape.
+    // The column as many steps to the right as the height says; whoever calls it has had `accept` answer Ok, and asks
+    // within the shape.
     pub fn right(self, column: usize, height: usize) -> usize
         requires { (Good self) × (column < self.n) × (height < self.m) }
         ensures { Stepped self.n (right self.n column height) result }

@@ -15,7 +15,8 @@ use sourcing::sources;
 use summing::sum_symbol;
 use walking::{above, below};
 
-// Stores at `at` what chain p gives without its symbols of heights d and h on a side, with the symbol of the buffer at b in the place of the one of height h.
+// Stores at `at` what chain p gives without its symbols of heights d and h on a side, with the symbol of the buffer
+// at b in the place of the one of height h.
 pub(crate) fn own(
     s: &[u8],
     out: &mut [u8],

@@ -9,10 +9,10 @@ ghost use Rattle.sourcing.specs.Sources.{Sourced};
 use shape::Shape;
 use summing::{Lies, Sum};
 
-// The sources of the symbol of height d on a side of chain p, whose places are in the list: the chain without that
-// symbol and without the one of height h on the side `aside`, in whose place the buffer's symbol at b stands. With no
-// height h there is nothing at b. The lost symbol's place in the list is taken by the parity symbol's, the asked
-// one's by the last.
+// The sources of the symbol of height d on a side of chain p, 0 the right and 1 the left, whose places are in the
+// list: the chain without that symbol and without the one of height h on the side `aside`, in whose place the
+// buffer's symbol at b stands. With no height h there is nothing at b. The lost symbol's place in the list is taken
+// by the parity symbol's, the asked one's by the last.
 pub fn sources(
     list: &mut [u16; 32],
     sh: Shape,

@@ -20,7 +20,8 @@ fn upward(n: usize, a: usize, b: usize) -> usize
     below(n, b, a)
 }
 
-// Whether a is the first of two columns: the walk from it up to the other is the shorter, or both are as long and its number is smaller.
+// Whether a is the first of two columns: the walk from it up to the other is the shorter, or both are as long and its
+// number is smaller.
 fn leads(n: usize, a: usize, b: usize) -> bool
     requires { (a < n) × (b < n) × (n ≤ 64) × (a ≢ b) }
     ensures { Tells (first n a b ≡ a) result }

@@ -3,7 +3,7 @@
 
 ghost use Rattle.std.specs.Prelude.{◌≡◌, ℕ, ◌+◌, ◌%◌, ◌≤◌, ◌<◌, length};
 ghost use Rattle.xor.specs.Tells.{Tells};
-ghost use Rattle.shape.specs.Good.{Good, size};
+ghost use Rattle.shape.specs.Good.{size};
 ghost use Rattle.shape.specs.Step.{right};
 ghost use Rattle.chain.specs.Chain.{Part};
 ghost use Rattle.matching.specs.Matching.{Found};
@@ -11,7 +11,7 @@ ghost use Rattle.standing.specs.Standing.{others_at, parity_at, Even};
 
 use block::LONGEST;
 use chain::others;
-use shape::Shape;
+use shape::Stripe;
 use walking::{Walk, above, along};
 
 // Whether LEN bytes from `from` on of the chain that wk walks obey the rule.
@@ -73,26 +73,28 @@ fn even_tail(s: &[u8], wk: Walk, start: usize) -> bool
 }
 
 // Whether chain p obeys the rule.
-fn even(sh: Shape, s: &[u8], p: usize) -> bool
-    requires { (Good sh) × (length s.now ≡ size sh) × (p < sh.n) }
-    ensures { Tells (Even sh s.now p 0 sh.w) result }
+fn even(stripe: Stripe, p: usize) -> bool
+    requires { p < stripe.shape.n }
+    ensures { Tells (Even stripe.entry.shape stripe.entry.bytes.now p 0 stripe.entry.shape.w) result }
 {
-    let wk = along(sh, p);
-    let front = sh.w - sh.w % 64;
-    even_front(s, wk, front) && even_tail(s, wk, front)
+    let Stripe { shape, bytes } = stripe;
+    let wk = along(shape, p);
+    let front = shape.w - shape.w % 64;
+    even_front(bytes, wk, front) && even_tail(bytes, wk, front)
 }
 
-// Whether a stretch of `count` chains from `start` on obeys the rule; whoever calls it has a good shape's stripe, and asks for no more chains than there are.
-pub fn all_even(sh: Shape, s: &[u8], start: usize, count: usize) -> bool
-    requires { (Good sh) × (length s.now ≡ size sh) × (start < sh.n) × (count ≤ sh.n) }
-    ensures { Tells ((i : ℕ) → i < count → Even sh s.now (right sh.n start i) 0 sh.w) result }
+// Whether a stretch of `count` chains from `start` on obeys the rule; whoever calls it asks for no more chains than
+// there are.
+pub fn all_even(stripe: Stripe, start: usize, count: usize) -> bool
+    requires { (start < stripe.shape.n) × (count ≤ stripe.shape.n) }
+    ensures { Tells ((i : ℕ) → i < count → Even stripe.entry.shape stripe.entry.bytes.now (right stripe.entry.shape.n start i) 0 stripe.entry.shape.w) result }
 {
     let mut p = start;
     for i in 0..count {
-        if !even(sh, s, p) {
+        if !even(stripe, p) {
             return false;
         }
-        p = above(sh.n, p, 1);
+        p = above(stripe.shape.n, p, 1);
     }
     true
 }

@@ -7,7 +7,8 @@ use crate::Priced;
 use answer::Refusal;
 use shape::Shape;
 
-// What it costs to make so many symbols, each the XOR of the 2m-2 others of its chain; whoever calls it has had `accept` answer Ok.
+// What it costs to make so many symbols, each the XOR of the 2m-2 others of its chain; whoever calls it has had
+// `accept` answer Ok.
 fn making(shape: Shape, symbols: usize) -> usize
     requires { (Good shape) × (symbols ≤ 64) }
     ensures { result ≡ symbols * (2 * shape.m - 3) }

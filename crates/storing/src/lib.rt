@@ -27,7 +27,8 @@ fn store_blocks(symbol: &[u8], stripe: &mut [u8], at: usize, whole: usize)
     }
 }
 
-// Stores a symbol of a height in a column, and touches nothing else; whoever calls it asks within a good shape and its stripe.
+// Stores a symbol of a height in a column, and touches nothing else; whoever calls it asks within a good shape and
+// its stripe.
 pub fn store(shape: Shape, stripe: &mut [u8], height: usize, column: usize, symbol: &[u8])
     requires { (Good shape) × (length stripe.old ≡ size shape) × (height < shape.m) × (column < shape.n) × (length symbol.now ≡ shape.w) }
     ensures { Set shape stripe.old height column symbol.now stripe.new }

@@ -9,8 +9,8 @@ ghost use Rattle.walking.specs.Walk.{Ways, Walks};
 
 use shape::Shape;
 
-// Where the symbols of a chain stand: below height `end` in the columns p - d and p + d, from there on in l and r and then a column further apart each height.
-// The two of the top height start at x and y, the parity symbol at `at`.
+// Where the symbols of a chain stand: below height `end` in the columns p - d and p + d, from there on in l and r and
+// then a column further apart each height. The two of the top height start at x and y, the parity symbol at `at`.
 #[derive(Clone, Copy)]
 pub struct Walk {
     pub shape: Shape,
@@ -25,7 +25,8 @@ pub struct Walk {
     ghost walks: { Walks shape p top l r end x y at },
 }
 
-// The walk of chain p that from height `end` on goes on from the columns l and r, with its top pair in columns a and b; `along` finds these for it.
+// The walk of chain p that from height `end` on goes on from the columns l and r, with its top pair in columns a and
+// b; `along` finds these for it.
 fn walk_through(sh: Shape, p: usize, l: usize, r: usize, end: usize, a: usize, b: usize) -> Walk
     requires { (Good sh) × (Ways sh p p p 0 1 end) × (Ways sh p l r end end (sh.m - 1)) × (a ≡ left sh.n p (sh.m - 1)) × (b ≡ right sh.n p (sh.m - 1)) }
     ensures { (result.shape ≡ sh) × (result.p ≡ p) }
@@ -45,7 +46,7 @@ fn walk_through(sh: Shape, p: usize, l: usize, r: usize, end: usize, a: usize, b
 }
 
 // The walk of a chain: with a wrap on the left, with none, or with one on the right.
-// Whoever calls it has had `refusal` answer Done, and asks for a chain of the shape.
+// Whoever calls it has had `accept` answer Ok, and asks for a chain of the shape.
 pub fn along(sh: Shape, p: usize) -> Walk
     requires { (Good sh) × (p < sh.n) }
     ensures { (result.shape ≡ sh) × (result.p ≡ p) }

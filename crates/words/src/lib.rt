@@ -7,7 +7,7 @@ ghost use Rattle.words.specs.Words.{Blanks, Letters, Worded, Spells};
 // A space, and every byte below it, is a blank.
 const SPACE: u8 = 32;
 
-// Every number of a shape and of a chain is below this one.
+// The numbers that words are read for, rows, columns and chains, are all below this one.
 const LIMIT: usize = 1000;
 
 // A word of a text: its bytes from `start` up to `end`.

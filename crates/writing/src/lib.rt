@@ -13,8 +13,8 @@ use shape::Shape;
 use storing::store;
 use xor::change;
 
-// XORs into the bytes at `at` the difference between those at `from` and the first `whole` of x, a number of whole blocks; `carry` asks for places apart.
-// (A `while`, as a `for` over the blocks would count them besides the bytes.)
+// XORs into the bytes at `at` the difference between those at `from` and the first `whole` of x, a number of whole
+// blocks; `carry` asks for places apart. (A `while`, as a `for` over the blocks would count them besides the bytes.)
 fn change_blocks(s: &mut [u8], at: usize, from: usize, x: &[u8], whole: usize)
     requires { (at + whole ≤ length s.old) × (from + whole ≤ length s.old) × (whole ≤ length x.now) × (whole % 128 ≡ 0) × ((at + whole ≤ from) ⊎ (from + whole ≤ at)) }
     ensures { Spanned (change_of s.old at from x.now) s.old s.new at whole }
@@ -28,7 +28,8 @@ fn change_blocks(s: &mut [u8], at: usize, from: usize, x: &[u8], whole: usize)
     }
 }
 
-// XORs into the parity symbol of a chain the change that an information symbol is about to take; `replace` asks within a good shape.
+// XORs into the parity symbol of a chain the change that an information symbol is about to take; `replace` asks
+// within a good shape.
 fn carry(shape: Shape, stripe: &mut [u8], height: usize, column: usize, chain: usize, symbol: &[u8])
     requires { (Good shape) × (length stripe.old ≡ size shape) × (1 ≤ height) × (height < shape.m) × (column < shape.n) × (chain < shape.n) × (length symbol.now ≡ shape.w) }
     ensures { Carried shape stripe.old height column chain symbol.now stripe.new }
@@ -43,7 +44,8 @@ fn carry(shape: Shape, stripe: &mut [u8], height: usize, column: usize, chain: u
     }
 }
 
-// Replaces an information symbol and XORs the change into the parity of its two chains; `small_write` has asked for the refusals.
+// Replaces an information symbol and XORs the change into the parity of its two chains; `small_write` has asked for
+// the refusals.
 fn replace(shape: Shape, stripe: &mut [u8], column: usize, row: usize, symbol: &[u8])
     requires { (Good shape) × (length stripe.old ≡ size shape) × (column < shape.n) × (row < shape.m - 1) × (length symbol.now ≡ shape.w) }
     ensures { Written shape stripe.old column row symbol.now stripe.new }
@@ -56,7 +58,8 @@ fn replace(shape: Shape, stripe: &mut [u8], column: usize, row: usize, symbol: &
     store(shape, stripe, height, column, symbol);
 }
 
-// Replaces an information symbol and XORs the change into its two parity symbols, so that each chain differs by the same bytes as before.
+// Replaces an information symbol and XORs the change into its two parity symbols, so that each chain differs by the
+// same bytes as before.
 pub fn small_write(
     shape: Shape,
     stripe: &mut [u8],

@@ -1,5 +1,5 @@
 // Bytes under XOR: the one theory of XOR sums that every floor above stands on.
-// Its kernels work on slices: bytes copied, a change XORed in, bytes cleared. Each is one loop over a plain index.
+// Its kernels work on slices: bytes copied, a change XORed in, bytes cleared.
 #![tactic(auto)]
 
 ghost use Rattle.std.specs.Prelude.{◌≡◌, ◌⊎◌, ℕ, ◌+◌, ◌≤◌, length, get_or};
@@ -15,7 +15,8 @@ pub fn copy(from: &[u8], s: &mut [u8], at: usize)
     }
 }
 
-// XORs into the bytes at `at` the difference between those at `from` and `x`, as many as `x` has; the two places are apart.
+// XORs into the bytes at `at` the difference between those at `from` and `x`, as many as `x` has; the two places are
+// apart.
 pub fn change(s: &mut [u8], at: usize, from: usize, x: &[u8])
     requires { (at + length x.now ≤ length s.old) × (from + length x.now ≤ length s.old) × ((at + length x.now ≤ from) ⊎ (from + length x.now ≤ at)) }
     ensures { Spanned (change_of s.old at from x.now) s.old s.new at (length x.now) }

@@ -5,8 +5,8 @@ use Rattle.xor.proofs.TellsLaws.{tells_false, told_no}
 use Rattle.agreeing.proofs.StretchLaws.{ends, between_free, agreed_tells, agreed_not, agreed_none}
 use Rattle.agreeing.proofs.agree.Goals as goal
 
-pub returns-then-sh-x : goal.returns-then-sh-x
-returns-then-sh-x c =
+pub returns-then-shape-x : goal.returns-then-shape-x
+returns-then-shape-x c =
     let a = c.args in
     agreed_none a.x a.s.now a.out.now c.requires.0 c.requires.2 (omega arith) _ c.all_even.ensures
 
@@ -31,18 +31,18 @@ beyond-from-requires c =
     let good = c.requires.0.good in
     (good.m_fits.1, omega (arith, good.n_fits.1, (ends c.args.x good c.requires.2 (omega arith) _ c.apart-end.ensures).0))
 
-pub above-requires : goal.above-requires
-above-requires c =
+pub above-start-requires : goal.above-start-requires
+above-start-requires c =
     let good = c.requires.0.good in
     (omega arith, omega (arith, c.beyond-from.ensures, good.m_fits.0, (ends c.args.x good c.requires.2 (omega arith) _ c.apart-end.ensures).1), good.n_fits.1)
 
-pub overflow_sub-sh-2 : goal.overflow_sub-sh-2
-overflow_sub-sh-2 c =
+pub overflow_sub-shape-2 : goal.overflow_sub-shape-2
+overflow_sub-shape-2 c =
     omega (arith, c.beyond-from.ensures, (ends c.args.x c.requires.0.good c.requires.2 (omega arith) _ c.apart-end.ensures).1)
 
 pub returns : goal.returns
 returns c =
     let a = c.args in
     agreed_tells a.x c.requires.0.good c.requires.2 (omega arith) _ c.apart-end.ensures a.s.now a.out.now c.requires.0 _ _
-    c.beyond-from.ensures c.above.ensures.is _
+    c.beyond-from.ensures c.above-start.ensures.is _
     (c.between.ensures.yes (not-false _ c.if-not-between.false-raw)) c.all_even-2.ensures

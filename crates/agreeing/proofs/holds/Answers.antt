@@ -9,4 +9,4 @@ returns c =
     let a = c.args in
     let h = c.apart-h in
     even_tells a.x c.requires.0.good a.p c.requires.1 c.requires.2 a.s.now a.out.now c.requires.0 _
-    (omega (arith, c.requires.4, c.if-d-sh.false)) (omega (arith, h.ensures, ltb-false h.result a.x.shape.m c.if-h-sh.false-raw)) c.all_even.ensures
+    (omega (arith, c.requires.4, c.if-d-shape.false)) (omega (arith, h.ensures, ltb-false h.result a.x.shape.m c.if-h-shape.false-raw)) c.all_even.ensures

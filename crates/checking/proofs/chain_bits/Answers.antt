@@ -20,4 +20,5 @@ tally_some-some-requires-clause-inside c = (omega arith, omega arith)
 pub returns : goal.returns
 returns c =
     let sum = rw (c.along-wk.ensures.0, c.along-wk.ensures.1) at c.loop-left.invariant in
-    let e : c.loop-left.from ≡ c.args.sh.w = omega (arith, sum.0) in (sum.1 ∙ ap (bits c.args.sh c.args.s.now c.args.p) e, omega (arith, e))
+    let e : c.loop-left.from ≡ c.args.stripe.shape.w = omega (arith, sum.0) in
+    (sum.1 ∙ ap (bits c.args.stripe.shape c.args.stripe.bytes.now c.args.p) e, omega (arith, e))

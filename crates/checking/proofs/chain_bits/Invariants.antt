@@ -5,7 +5,7 @@ use Rattle.checking.proofs.Counting.{bits}
 use Rattle.checking.proofs.chain_bits.Given as goal
 
 abbrev pub invariant-loop-left : goal.invariant-loop-left
-invariant-loop-left l = (l.from + l.left ≡ l.wk.shape.w) × (l.bits ≡ bits l.wk.shape l.s l.wk.p l.from) × (l.bits ≤ 8 * l.from)
+invariant-loop-left l = (l.from + l.left ≡ l.wk.shape.w) × (l.bits ≡ bits l.wk.shape l.stripe.bytes.now l.wk.p l.from) × (l.bits ≤ 8 * l.from)
 
 abbrev pub decreases-loop-left : goal.decreases-loop-left
 decreases-loop-left l = l.left

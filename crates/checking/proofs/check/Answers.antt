@@ -1,13 +1,12 @@
--- `check`: what is not refused is good and as long as its shape says, so it is counted; refused, it reports zeros.
+-- `check`: what is refused reports zeros; what is counted is the stripe that was given.
 use Rattle.std.proofs.lemmas.Result.{err_from_is_err_and}
 use Rattle.answer.proofs.OutcomeLaws.{outcome_refused}
-use Rattle.shape.proofs.Asked.{done_stripe}
 use Rattle.checking.proofs.check.Goals as goal
 
-pub returns-in_err-accept_stripe : goal.returns-in_err-accept_stripe
-returns-in_err-accept_stripe c =
+pub returns-in_err-stripe : goal.returns-in_err-stripe
+returns-in_err-stripe c =
     let p = err_from_is_err_and c.from_residual.result c.from_residual.ensures.1 in
-    rw (p.1, p.2) (outcome_refused _ _ _ c.in_err-accept_stripe.ensures)
+    rw (p.1, p.2) (outcome_refused _ _ _ c.in_err-stripe.ensures.table)
 
-pub counted-requires : goal.counted-requires
-counted-requires c = done_stripe _ _ _ c.accept_stripe.ensures c.in_ok-accept_stripe.was
+pub returns : goal.returns
+returns c = let e = c.in_ok-stripe.ensures.given in rw (e.0, e.1) at c.counted.ensures

@@ -13,13 +13,13 @@ use Rattle.checking.proofs.counted.Goals as goal
 use Rattle.checking.proofs.counted.Goals.{After-bits_by_chain-by_chain, In-loop-differing, then-differing-ne0, else-differing-ne0}
 
 -- as many chains are counted as the shape has
-many : (c : After-bits_by_chain-by_chain) → length (take c.args.shape.n c.bits_by_chain-by_chain.result) ≡ c.args.shape.n
-many c = bits_front c.args.shape c.args.stripe.now c.bits_by_chain-by_chain.result c.bits_by_chain-by_chain.ensures c.requires.0.n_fits.1
+many : (c : After-bits_by_chain-by_chain) → length (take c.args.stripe.shape.n c.bits_by_chain-by_chain.result) ≡ c.args.stripe.shape.n
+many c = bits_front c.args.stripe.shape c.args.stripe.bytes.now c.bits_by_chain-by_chain.result c.bits_by_chain-by_chain.ensures c.args.stripe.good.n_fits.1
 
 -- the chain that is counted next
-more : (c : In-loop-differing) → Chain c.args.shape c.args.stripe.now
-    c.loop-differing.differing-index (get_or (take c.args.shape.n c.bits_by_chain-by_chain.result) c.loop-differing.differing-index 0)
-more c = bits_at c.args.shape c.args.stripe.now c.bits_by_chain-by_chain.result c.bits_by_chain-by_chain.ensures c.loop-differing.differing-index c.loop-differing-test.true
+more : (c : In-loop-differing) → Chain c.args.stripe.shape c.args.stripe.bytes.now
+    c.loop-differing.differing-index (get_or (take c.args.stripe.shape.n c.bits_by_chain-by_chain.result) c.loop-differing.differing-index 0)
+more c = bits_at c.args.stripe.shape c.args.stripe.bytes.now c.bits_by_chain-by_chain.result c.bits_by_chain-by_chain.ensures c.loop-differing.differing-index c.loop-differing-test.true
 
 pub loop-differing-init : goal.loop-differing-init
 loop-differing-init c = (omega arith, omega arith, count_start _, total_none _)
@@ -30,8 +30,8 @@ overflow_add-broken c = omega arith
 pub loop-differing-preserved : goal.loop-differing-preserved
 loop-differing-preserved c =
     let at = c.loop-differing in
-    let sh = c.args.shape in
-    let s = c.args.stripe.now in
+    let sh = c.args.stripe.shape in
+    let s = c.args.stripe.bytes.now in
     let b = more (goal.at.loop-differing-preserved c).In-loop-differing in
     let sum = total_more (chain_bits sh s) at.differing-index at.invariant.3 (c.from-bits.ensures ∙ b.0) in
     elim c.if-differing-ne0.branch [
@@ -43,10 +43,10 @@ pub returns : goal.returns
 unfolding number broken_chains differing_bits
 returns c =
     let at = c.loop-differing in
-    let sh = c.args.shape in
-    let s = c.args.stripe.now in
+    let sh = c.args.stripe.shape in
+    let s = c.args.stripe.bytes.now in
     let e : at.differing-index ≡ sh.n = omega (arith, many (goal.at.returns c).After-bits_by_chain-by_chain) in record {
-      answer = (stripe_done _ _).0 c.requires;
+      answer = (stripe_done _ _).0 (c.args.stripe.good, c.args.stripe.whole);
       refused = λ ne. absurd (ne refl);
       done = λ z.
           ap₂ (λ (x y : ℕ). (x, y)) (at.invariant.2 ∙ ap (λ (k : ℕ). count k (breaks sh s)) e)

@@ -8,4 +8,4 @@ use Rattle.checking.proofs.counted.Given as goal
 abbrev pub invariant-loop-differing : goal.invariant-loop-differing
 invariant-loop-differing l =
     let k = l.differing-index in
-    (l.broken ≤ k) × (l.bits ≤ 65536 * k) × (l.broken ≡ count k (breaks l.fn.shape l.stripe)) × (l.bits ≡ total k (chain_bits l.fn.shape l.stripe))
+    (l.broken ≤ k) × (l.bits ≤ 65536 * k) × (l.broken ≡ count k (breaks l.stripe.shape l.stripe.bytes.now)) × (l.bits ≡ total k (chain_bits l.stripe.shape l.stripe.bytes.now))

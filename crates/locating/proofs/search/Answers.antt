@@ -12,12 +12,12 @@ columns-preserved-then-not-within c =
     let at = c.columns in (
       omega arith,
       below_more _ _ at.invariant.1
-          (λ ex. told_no c.within.ensures c.if-not-within.true (explains_within c.args.shape c.args.s.now c.args.bits.now c.requires.1 at.next ex)),
+          (λ ex. told_no c.within.ensures c.if-not-within.true (explains_within c.args.stripe.shape c.args.stripe.bytes.now c.args.bits.now c.requires at.next ex)),
     )
 
-pub returns-then-shape-next : goal.returns-then-shape-next
+pub returns-then-stripe-next : goal.returns-then-stripe-next
 unfolding found
-returns-then-shape-next c = inr (refl, λ k l. c.columns.invariant.1 k (omega arith))
+returns-then-stripe-next c = inr (refl, λ k l. c.columns.invariant.1 k (omega arith))
 
 pub returns-after-loop-d : goal.returns-after-loop-d
 unfolding found
@@ -27,6 +27,6 @@ returns-after-loop-d c =
     inl (
       refl,
       omega arith,
-      within_explains c.args.shape c.args.s.now c.args.bits.now c.requires.1 at.next
+      within_explains c.args.stripe.shape c.args.stripe.bytes.now c.args.bits.now c.requires at.next
           (c.within.ensures.yes c.if-not-within.false) (λ d lo hd. height.invariant d (omega arith) lo),
     )

@@ -7,10 +7,10 @@ use Rattle.locating.specs.Locating.{Alike}
 use Rattle.locating.proofs.search.Given as goal
 
 abbrev pub invariant-loop-d : goal.invariant-loop-d
-invariant-loop-d l = (e : ℕ) → e < l.d → 1 ≤ e → Alike l.shape l.s (left l.shape.n l.c e) (right l.shape.n l.c e)
+invariant-loop-d l = (e : ℕ) → e < l.d → 1 ≤ e → Alike l.stripe.shape l.stripe.bytes.now (left l.stripe.shape.n l.c e) (right l.stripe.shape.n l.c e)
 
 abbrev pub invariant-columns : goal.invariant-columns
-invariant-columns l = (l.next ≤ l.shape.n) × ((k : ℕ) → k < l.next → ¬ Explains l.shape l.s k)
+invariant-columns l = (l.next ≤ l.stripe.shape.n) × ((k : ℕ) → k < l.next → ¬ Explains l.stripe.shape l.stripe.bytes.now k)
 
 abbrev pub decreases-columns : goal.decreases-columns
-decreases-columns l = l.shape.n - l.next
+decreases-columns l = l.stripe.shape.n - l.next

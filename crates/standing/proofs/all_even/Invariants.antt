@@ -6,4 +6,6 @@ use Rattle.standing.specs.Standing.{Even}
 use Rattle.standing.proofs.all_even.Given as goal
 
 abbrev pub invariant-loop-i : goal.invariant-loop-i
-invariant-loop-i l = (l.p < l.sh.n) × (l.p ≡ right l.sh.n l.start l.i) × ((j : ℕ) → j < l.i → Even l.sh l.s (right l.sh.n l.start j) 0 l.sh.w)
+invariant-loop-i l =
+    let sh = l.stripe.shape in
+    (l.p < sh.n) × (l.p ≡ right sh.n l.start l.i) × ((j : ℕ) → j < l.i → Even sh l.stripe.bytes.now (right sh.n l.start j) 0 sh.w)
