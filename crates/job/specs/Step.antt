@@ -19,7 +19,7 @@ abbrev pub line_of : ℕ → ℕ → Option Told → Option Line
 line_of number kind None = None
 line_of number kind (Some told) = Some (record { number = number; kind = kind; answer = told.answer; x = told.x; y = told.y })
 
--- the answer on the line, and whether there is one; without a line the answer is 0
+-- the answer that a line gives; 0 where there is no line
 abbrev pub answer_on : Option Line → ℕ
 answer_on None = 0
 answer_on (Some line) = line.answer
