@@ -24,5 +24,5 @@ upto_more {f} {xs} {ys} {i} u v e lt = record {
 }
 
 -- the loop is done: a block
-pub upto_block : {f : ℕ → ℕ} {xs ys : List ℕ} {i len : ℕ} → Upto f xs ys i → length xs ≡ len → len ≤ i → Block f len ys
+pub upto_block : {f : ℕ → ℕ} {xs ys : List ℕ} {i len long : ℕ} → Upto f xs ys i → length xs ≡ long → len ≤ i → Block f len long ys
 upto_block u whole le = record { whole = u.long ∙ whole; at = λ t l. u.at t (omega arith) }

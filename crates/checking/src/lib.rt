@@ -27,9 +27,9 @@ fn tally<const LEN: usize>(bits: &mut u16, s: &[u8], wk: Walk, from: usize) -> u
     requires few { bits.old ≤ 8 * from }
     ensures { (result ≡ LEN) × (Counts wk.shape s.now wk.p from (from + result) bits.old bits.new) }
 {
-    let acc: [u8; LEN] = difference(s, wk, from);
-    if !looking::none(&acc) {
-        *bits += looking::count(&acc);
+    let acc: [u8; LEN] = difference(s, wk, from, LEN);
+    if !looking::none(&acc, LEN) {
+        *bits += looking::count(&acc, LEN);
     }
     LEN
 }

@@ -15,14 +15,15 @@ use chain::others;
 use shape::Shape;
 use walking::{Walk, along};
 
-// Sets LEN bytes of the parity symbol of a chain, and gives LEN.
-fn encode_part<const LEN: usize>(stripe: &mut [u8], wk: Walk, from: usize) -> usize
-    requires { Part wk.shape stripe.old from LEN }
-    ensures { (result ≡ LEN) × (Settled wk.shape (Stretch wk.p from (from + result)) stripe.old stripe.new) }
+// Sets len bytes of the parity symbol of a chain, by a block of LEN, and gives len.
+fn encode_part<const LEN: usize>(stripe: &mut [u8], wk: Walk, from: usize, len: usize) -> usize
+    requires block { (len ≤ LEN) × (LEN ≤ 128) }
+    requires part { Part wk.shape stripe.old from len }
+    ensures { (result ≡ len) × (Settled wk.shape (Stretch wk.p from (from + result)) stripe.old stripe.new) }
 {
-    let acc: [u8; LEN] = others(stripe, wk, from);
-    block::put(&acc, stripe, wk.at + from);
-    LEN
+    let acc: [u8; LEN] = others(stripe, wk, from, len);
+    block::put(&acc, stripe, wk.at + from, len);
+    len
 }
 
 // Sets the first `whole` bytes of that parity symbol, a number of whole blocks. (Not `for`, which costs more
@@ -35,7 +36,7 @@ fn encode_blocks(stripe: &mut [u8], wk: Walk, whole: usize)
 {
     let mut from = 0;
     while from < whole {
-        from += encode_part::<LONGEST>(stripe, wk, from);
+        from += encode_part::<LONGEST>(stripe, wk, from, LONGEST);
     }
 }
 
@@ -46,9 +47,9 @@ fn encode_some(stripe: &mut [u8], wk: Walk, from: usize) -> usize
     ensures { (1 ≤ result) × (from + result ≤ wk.shape.w) × (Settled wk.shape (Stretch wk.p from (from + result)) stripe.old stripe.new) }
 {
     match wk.shape.w - from {
-        ..16 => encode_part::<1>(stripe, wk, from),
-        16..64 => encode_part::<16>(stripe, wk, from),
-        _ => encode_part::<64>(stripe, wk, from),
+        ..16 => encode_part::<1>(stripe, wk, from, 1),
+        16..64 => encode_part::<64>(stripe, wk, from, 16),
+        _ => encode_part::<64>(stripe, wk, from, 64),
     }
 }
 

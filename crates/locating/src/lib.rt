@@ -46,10 +46,10 @@ fn level<const LEN: usize>(same: &mut bool, s: &[u8], wk: Walk, other: Walk, fro
     requires one_shape { other.shape ≡ wk.shape }
     ensures { (result ≡ LEN) × (Compares wk.shape s.now wk.p other.p from (from + result) same.old same.new) }
 {
-    let mut acc: [u8; LEN] = difference(s, wk, from);
-    let second = difference(s, other, from);
-    block::join(&mut acc, &second);
-    if !looking::none(&acc) {
+    let mut acc: [u8; LEN] = difference(s, wk, from, LEN);
+    let second = difference(s, other, from, LEN);
+    block::join(&mut acc, &second, LEN);
+    if !looking::none(&acc, LEN) {
         *same = false;
     }
     LEN

@@ -7,25 +7,26 @@ ghost use Rattle.std.specs.Int.Count.{ones};
 ghost use Rattle.xor.specs.Tells.{Tells};
 ghost use Rattle.looking.specs.Looking.{Zero, Same, Ones};
 
-// Whether all bytes of acc are 0.
-pub fn none<const LEN: usize>(acc: &[u8; LEN]) -> bool
-    ensures { Tells (Zero acc.now LEN) result }
+// Whether the first len bytes of acc are 0.
+pub fn none<const LEN: usize>(acc: &[u8; LEN], len: usize) -> bool
+    requires { len ≤ LEN }
+    ensures { Tells (Zero acc.now len) result }
 {
     let mut any = 0;
-    for byte in acc {
-        any |= byte;
+    for k in 0..len {
+        any |= acc[k];
     }
     any == 0
 }
 
-// Whether acc is like the bytes of s from `at` on; whoever calls it stays within the slice.
-pub fn same<const LEN: usize>(acc: &[u8; LEN], s: &[u8], at: usize) -> bool
-    requires { at + LEN ≤ length s.now }
-    ensures { Tells (Same acc.now s.now at LEN) result }
+// Whether they are like the bytes of s from `at` on; whoever calls it stays within the slice.
+pub fn same<const LEN: usize>(acc: &[u8; LEN], s: &[u8], at: usize, len: usize) -> bool
+    requires { (len ≤ LEN) × (at + len ≤ length s.now) }
+    ensures { Tells (Same acc.now s.now at len) result }
 {
     let mut any = 0;
-    for (k, byte) in acc.iter().enumerate() {
-        any |= byte ^ s[at + k];
+    for k in 0..len {
+        any |= acc[k] ^ s[at + k];
     }
     any == 0
 }
@@ -37,14 +38,14 @@ fn bits(x: u8) -> u16
     u8::count_ones(x) as u16
 }
 
-// How many bits of acc are 1; whoever calls it has a block whose bits a u16 counts.
-pub fn count<const LEN: usize>(acc: &[u8; LEN]) -> u16
-    requires { 8 * LEN < 2 ^ 16 }
-    ensures { Ones acc.now LEN result }
+// How many of their bits are 1; whoever calls it has as few bytes as a u16 counts the bits of.
+pub fn count<const LEN: usize>(acc: &[u8; LEN], len: usize) -> u16
+    requires { (len ≤ LEN) × (8 * len < 2 ^ 16) }
+    ensures { Ones acc.now len result }
 {
     let mut sum = 0;
-    for byte in acc {
-        sum += bits(*byte);
+    for k in 0..len {
+        sum += bits(acc[k]);
     }
     sum
 }

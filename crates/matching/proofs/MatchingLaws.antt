@@ -36,7 +36,7 @@ module _ (F G : ℕ → ℕ) where
     found_end found h all = found (λ t a b. all t (omega arith) b)
 
   -- a block of F beside a slice that has G's bytes
-  module _ (u : List ℕ) (at : ℕ) (is : (t : ℕ) → bytes_at u at t ≡ G t) (from len : ℕ) (acc : List ℕ) (b : Block (λ t. F (from + t)) len acc) where
+  module _ (u : List ℕ) (at : ℕ) (is : (t : ℕ) → bytes_at u at t ≡ G t) (from len : ℕ) {long : ℕ} (acc : List ℕ) (b : Block (λ t. F (from + t)) len long acc) where
     pub same_level : Same acc u (at + from) len → Level F G from (from + len)
     same_level h t lo hi =
         let r = t - from in

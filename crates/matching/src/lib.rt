@@ -22,8 +22,8 @@ fn match_part<'a, const LEN: usize>(
     requires { (Fits s.now out.now list.now x (from + LEN)) × (at + (from + LEN) ≤ length u.now) }
     ensures { Matched (summed s.now out.now list.now x) (bytes_at u.now at) from LEN result }
 {
-    let acc: [u8; LEN] = sum_at(s, out, list, x, from);
-    looking::same(&acc, u, at + from)
+    let acc: [u8; LEN] = sum_at(s, out, list, x, from, LEN);
+    looking::same(&acc, u, at + from, LEN)
 }
 
 // Whether the first `whole` bytes, a number of whole blocks, are the same. (Not `for`, which costs more instructions

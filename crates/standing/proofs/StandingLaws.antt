@@ -12,7 +12,7 @@ use Rattle.sourcing.proofs.FlatLaws.{symbol_at}
 use Rattle.matching.proofs.MatchingLaws.{same_level, level_same}
 use Rattle.standing.specs.Standing.{others_at, parity_at, Even}
 
-module _ (sh : Shape) (s : List ℕ) (p at from len : ℕ) (acc : List ℕ) (e : at ≡ place sh 0 p 0) (b : Block (λ t. others_at sh s p (from + t)) len acc) where
+module _ (sh : Shape) (s : List ℕ) (p at from len : ℕ) {long : ℕ} (acc : List ℕ) (e : at ≡ place sh 0 p 0) (b : Block (λ t. others_at sh s p (from + t)) len long acc) where
   -- a block of the others beside the parity symbol
   pub even_block : (r : Bool) → Tells (Same acc s (at + from) len) r → Tells (Even sh s p from (from + len)) r
   even_block r tells = record {

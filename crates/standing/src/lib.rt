@@ -14,13 +14,16 @@ use chain::others;
 use shape::Stripe;
 use walking::{Walk, above, along};
 
-// Whether LEN bytes from `from` on of the chain that wk walks obey the rule.
-fn even_part<const LEN: usize>(s: &[u8], wk: Walk, from: usize) -> bool
-    requires { Part wk.shape s.now from LEN }
-    ensures { Tells (Even wk.shape s.now wk.p from (from + LEN)) result }
+// Whether len bytes from `from` on of the chain that wk walks obey the rule, by a block of LEN.
+// (`always`: the length has to stand as a constant where `others` is called.)
+#[inline(always)]
+fn even_part<const LEN: usize>(s: &[u8], wk: Walk, from: usize, len: usize) -> bool
+    requires block { (len ≤ LEN) × (LEN ≤ 128) }
+    requires part { Part wk.shape s.now from len }
+    ensures { Tells (Even wk.shape s.now wk.p from (from + len)) result }
 {
-    let acc: [u8; LEN] = others(s, wk, from);
-    looking::same(&acc, s, wk.at + from)
+    let acc: [u8; LEN] = others(s, wk, from, len);
+    looking::same(&acc, s, wk.at + from, len)
 }
 
 // Whether the first `front` bytes of that chain, a number of half blocks, obey the rule. (Not `for`, which costs more instructions a block.)
@@ -33,7 +36,7 @@ fn even_front(s: &[u8], wk: Walk, front: usize) -> bool
     let whole = front - front % LONGEST;
     let mut from = 0;
     while from < whole {
-        if !even_part::<LONGEST>(s, wk, from) {
+        if !even_part::<LONGEST>(s, wk, from, LONGEST) {
             return false;
         }
         from += LONGEST;
@@ -41,7 +44,7 @@ fn even_front(s: &[u8], wk: Walk, front: usize) -> bool
     if whole == front {
         return true;
     }
-    even_part::<64>(s, wk, whole)
+    even_part::<64>(s, wk, whole, 64)
 }
 
 // How many of the bytes from `from` on obey the rule, 16 or 1 as they fit; none if they do not.
@@ -51,8 +54,8 @@ fn even_some(s: &[u8], wk: Walk, from: usize) -> Option<usize>
     ensures { Found (others_at wk.shape s.now wk.p) (parity_at wk.shape s.now wk.p) from wk.shape.w result }
 {
     match wk.shape.w - from {
-        ..16 => even_part::<1>(s, wk, from).then_some(1),
-        _ => even_part::<16>(s, wk, from).then_some(16),
+        ..16 => even_part::<1>(s, wk, from, 1).then_some(1),
+        _ => even_part::<64>(s, wk, from, 16).then_some(16),
     }
 }
 

@@ -21,8 +21,8 @@ fn store_blocks(symbol: &[u8], stripe: &mut [u8], at: usize, whole: usize)
 {
     let mut t = 0;
     while t < whole {
-        let acc: [u8; LONGEST] = block::get(symbol, t);
-        block::put(&acc, stripe, at + t);
+        let acc: [u8; LONGEST] = block::get(symbol, t, LONGEST);
+        block::put(&acc, stripe, at + t, LONGEST);
         t += LONGEST;
     }
 }

@@ -24,7 +24,7 @@ pub struct Sum {
     pub b: Lies,
 }
 
-// The sum x: LEN bytes from `from` on; whoever calls it stays within the slices.
+// The sum x: len bytes from `from` on; whoever calls it stays within the slices.
 #[inline(always)]
 pub fn sum_at<'a, const LEN: usize>(
     s: &'a [u8],
@@ -32,21 +32,24 @@ pub fn sum_at<'a, const LEN: usize>(
     list: &[u16; 32],
     x: Sum,
     from: usize,
+    len: usize,
 ) -> [u8; LEN]
-    requires { Fits s.now out.now list.now x (from + LEN) }
-    ensures { Block (λ t. summed s.now out.now list.now x (from + t)) LEN result }
+    requires block { len ≤ LEN }
+    requires fits { Fits s.now out.now list.now x (from + len) }
+    ensures { Block (λ t. summed s.now out.now list.now x (from + t)) len LEN result }
 {
     let (t, b) = match x.b {
         Lies::Stripe(b) => (s, b),
         Lies::Buffer(b) => (out, b),
     };
-    let mut acc = block::both(s, x.a + from, t, b + from);
+    let mut acc = block::both(s, x.a + from, t, b + from, len);
     for i in 0..x.count / 2 {
         block::pair(
             &mut acc,
             s,
             list[2 * i] as usize + from,
             list[2 * i + 1] as usize + from,
+            len,
         );
     }
     acc
@@ -64,8 +67,8 @@ fn sum_part<const LEN: usize>(
     requires { (Fits s.now out.old list.now x (from + LEN)) × (at + (from + LEN) ≤ length out.old) }
     ensures { (result ≡ LEN) × (Summed s.now list.now x at from (from + result) out.old out.new) }
 {
-    let acc: [u8; LEN] = sum_at(s, out, list, x, from);
-    block::put(&acc, out, at + from);
+    let acc: [u8; LEN] = sum_at(s, out, list, x, from, LEN);
+    block::put(&acc, out, at + from, LEN);
     LEN
 }
 

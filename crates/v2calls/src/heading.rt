@@ -32,7 +32,7 @@ fn four(bytes: &[u8; 65], at: usize) -> usize
     requires { at + 4 ≤ 65 }
     ensures { (result ≡ little·four bytes.now at) × (result < 4294967296) }
 {
-    u32::from_le_bytes(get(bytes, at)) as usize
+    u32::from_le_bytes(get(bytes, at, 4)) as usize
 }
 
 // The number of eight bytes, the lowest first.
@@ -40,7 +40,7 @@ fn eight(bytes: &[u8; 65], at: usize) -> usize
     requires { at + 8 ≤ 65 }
     ensures { result ≡ little·eight bytes.now at }
 {
-    u64::from_le_bytes(get(bytes, at)) as usize
+    u64::from_le_bytes(get(bytes, at, 8)) as usize
 }
 
 // The head that these bytes spell; none where its call is unknown.

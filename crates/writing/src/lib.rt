@@ -21,9 +21,9 @@ fn change_blocks(s: &mut [u8], at: usize, from: usize, x: &[u8], whole: usize)
 {
     let mut t = 0;
     while t < whole {
-        let mut acc = block::both::<LONGEST>(s, from + t, x, t);
-        block::add(&mut acc, s, at + t);
-        block::put(&acc, s, at + t);
+        let mut acc = block::both::<LONGEST>(s, from + t, x, t, LONGEST);
+        block::add(&mut acc, s, at + t, LONGEST);
+        block::put(&acc, s, at + t, LONGEST);
         t += LONGEST;
     }
 }

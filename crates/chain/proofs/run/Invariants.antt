@@ -8,4 +8,4 @@ use Rattle.chain.proofs.run.Given as goal
 
 abbrev pub invariant-loop-d : goal.invariant-loop-d
 invariant-loop-d g l =
-    ((p : ℕ) → Ways l.sh p l.l l.r l.base l.start l.end → Ran l.sh l.s p l.start l.d l.from g.row.LEN l.initial.acc l.acc) × (length l.acc ≡ g.row.LEN)
+    ((p : ℕ) → Ways l.sh p l.l l.r l.base l.start l.end → Ran l.sh l.s p l.start l.d l.from l.len l.initial.acc l.acc) × (length l.acc ≡ g.row.LEN)

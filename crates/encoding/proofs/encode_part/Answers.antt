@@ -17,7 +17,7 @@ returns g c =
     let from = c.args.from in
     let lent = c.args.stripe.now in (
       refl,
-      settled_span sh c.requires.good lent _ p from g.row.LEN wk.walks.near.here c.requires.inside
+      settled_span sh c.requires.part.good lent _ p from c.args.len wk.walks.near.here c.requires.part.inside
           (span_same (λ t. others sh.m sh.n (byte sh lent (from + t)) p) c.put.ensures
           (ap (λ (a : ℕ). a + from) wk.walks.at_is.at ∙ place_add sh 0 p 0 from ∙ ap (place sh 0 p) (omega arith)) (λ t h. c.others-acc.ensures.at t h)),
     )

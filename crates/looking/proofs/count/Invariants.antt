@@ -6,5 +6,5 @@ use lib.ListN.{get_or}
 use Rattle.xor.specs.Total.{total}
 use Rattle.looking.proofs.count.Given as goal
 
-abbrev pub invariant-loop-byte : goal.invariant-loop-byte
-invariant-loop-byte g l = (l.sum ≡ total l.byte-index (λ t. ones (get_or l.acc t 0))) × (l.sum ≤ 8 * l.byte-index)
+abbrev pub invariant-loop-k : goal.invariant-loop-k
+invariant-loop-k g l = (l.sum ≡ total l.k (λ t. ones (get_or l.acc t 0))) × (l.sum ≤ 8 * l.k)

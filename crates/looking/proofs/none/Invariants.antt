@@ -3,5 +3,5 @@ use lib.ListN.{get_or}
 use Rattle.looking.proofs.Seen.{Seen}
 use Rattle.looking.proofs.none.Given as goal
 
-abbrev pub invariant-loop-byte : goal.invariant-loop-byte
-invariant-loop-byte g l = Seen (λ t. get_or l.acc t 0) l.byte-index l.any
+abbrev pub invariant-loop-k : goal.invariant-loop-k
+invariant-loop-k g l = Seen (λ t. get_or l.acc t 0) l.k l.any

@@ -5,4 +5,4 @@ use Rattle.standing.proofs.even_part.Goals as goal
 pub returns : goal.returns
 returns g c =
     let a = c.args in
-    even_block a.wk.shape a.s.now a.wk.p a.wk.at a.from g.row.LEN _ a.wk.walks.at_is.at c.others-acc.ensures _ c.same.ensures
+    even_block a.wk.shape a.s.now a.wk.p a.wk.at a.from a.len _ a.wk.walks.at_is.at c.others-acc.ensures _ c.same.ensures

@@ -39,5 +39,5 @@ pub returns : goal.returns
 unfolding summed
 returns g c =
     let at = c.loop-i in
-    let e : 2 * at.i ≡ c.args.x.count = omega (arith, c.requires.even) in
+    let e : 2 * at.i ≡ c.args.x.count = omega (arith, c.requires.fits.even) in
     rw e at at.invariant
