@@ -3,7 +3,8 @@
 #![tactic(auto)]
 
 mod holding;
-mod telling;
+// Its `told` is named from there: beside the struct `Told` the name can't stand here too.
+pub mod telling;
 
 pub use holding::{accepted, front};
 use shape::Shape;
