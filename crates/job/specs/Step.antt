@@ -24,10 +24,11 @@ abbrev pub answer_on : Option Line → ℕ
 answer_on None = 0
 answer_on (Some line) = line.answer
 
--- the step of the next record, of this kind and length, from what it comes to
+-- the step of the next record, of this kind and length, from what it comes to; the kind is told of a record without a line too
 unfoldable pub step_of : State → ℕ → Deed → ℕ → Turn
 step_of st kind d taken = record {
   state = record { held = d.held; records = next st.records };
+  kind = kind;
   line = line_of (next st.records) kind d.told;
   taken = taken;
   stops = false;
@@ -37,6 +38,7 @@ step_of st kind d taken = record {
 unfoldable pub stopped : State → ℕ → Turn
 stopped st taken = record {
   state = record { held = st.held; records = next st.records };
+  kind = 0;
   line = Some (record { number = next st.records; kind = 0; answer = 12; x = 0; y = 0 });
   taken = taken;
   stops = true;
@@ -46,6 +48,7 @@ stopped st taken = record {
 unfoldable pub ended : State → Turn
 ended st = record {
   state = st;
+  kind = 0;
   line = None;
   taken = 0;
   stops = true;

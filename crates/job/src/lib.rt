@@ -17,11 +17,13 @@ pub struct State {
     pub records: usize,
 }
 
-// What a step comes to, a turn of the program: the next state, the line if one is printed, how many bytes of the
-// input the record took, and whether the program stops.
+// What a step comes to, a turn of the program: the next state, the kind of the record, also of one that gets no line
+// and 0 where there is none, the line if one is printed, how many bytes of the input the record took, and whether the
+// program stops.
 #[derive(Clone, Copy)]
 pub struct Turn {
     pub state: State,
+    pub kind: usize,
     pub line: Option<Line>,
     pub taken: usize,
     pub stops: bool,

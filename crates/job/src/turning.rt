@@ -19,6 +19,7 @@ pub(crate) fn made(state: State, kind: usize, deed: Deed, taken: usize) -> Turn
             held,
             records: number,
         },
+        kind,
         line: told.map(|Told { answer, x, y }| Line {
             number,
             kind,
@@ -31,7 +32,7 @@ pub(crate) fn made(state: State, kind: usize, deed: Deed, taken: usize) -> Turn
     }
 }
 
-// The step at a record that is none: its line has kind 0, and the program stops.
+// The step at a record that is none: it and its line have kind 0, and the program stops.
 #[tactic(auto, unfolding(crate::specs::Step::next, crate::specs::Step::stopped, answer::specs::Answers::refusal_number))]
 pub(crate) fn stop(state: State, taken: usize) -> Turn
     ensures { result ≡ stopped state taken }
@@ -50,6 +51,7 @@ pub(crate) fn stop(state: State, taken: usize) -> Turn
             held,
             records: number,
         },
+        kind: 0,
         line: Some(line),
         taken,
         stops: true,
@@ -63,6 +65,7 @@ pub(crate) fn end(state: State) -> Turn
 {
     Turn {
         state,
+        kind: 0,
         line: None,
         taken: 0,
         stops: true,
