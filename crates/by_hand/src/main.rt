@@ -1,5 +1,6 @@
 // The small stripes by hand, P5 to P10 of the rules, through the public calls.
 // Each check follows from the contracts: it is proved, and the run shows what a person would work out on paper.
+// A write that fails is passed over, and the next is tried: the status says nothing of it.
 #![tactic(auto)]
 
 ghost use Rattle.std.specs.Prelude.{◌≡◌};
@@ -13,7 +14,6 @@ use checking::Checked;
 use locating::Damage;
 use rule::Losses;
 use shape::Shape;
-use std::io;
 
 // (2, 5), with symbols of one byte.
 fn five() -> Shape
@@ -23,12 +23,12 @@ fn five() -> Shape
 }
 
 // Prints a name and the bytes of a stripe, each in two digits.
-fn show(rt: &impl Print, name: &str, stripe: &[u8]) -> io::Result<()> {
-    print!(rt; "{name}:")?;
+fn show(rt: &impl Print, name: &str, stripe: &[u8]) {
+    let _ = print!(rt; "{name}:");
     for byte in stripe {
-        print!(rt; " {byte:02x}")?;
+        let _ = print!(rt; " {byte:02x}");
     }
-    println!(rt;)
+    let _ = println!(rt;);
 }
 
 // P5: the information 01 02 04 08 10 encoded, over whatever the parity was.
@@ -42,34 +42,34 @@ fn encoded() -> [u8; 10]
 }
 
 // P6: columns 0 and 2 of the stripe of P5 are lost, and come back; the workspace is all zero after it.
-fn two_apart(rt: &impl Print) -> io::Result<()> {
+fn two_apart(rt: &impl Print) {
     let mut stripe = [238, 238, 2, 5, 238, 238, 8, 20, 16, 9];
     let mut work = [170; 4];
     let answer = rebuild::rebuild(five(), Losses::Two(0, 2), &mut stripe, &mut work);
     expect(answer.is_ok());
     expect(stripe == [0x01, 0x12, 2, 5, 0x04, 0x0a, 8, 20, 16, 9]);
     expect(work == [0; 4]);
-    show(rt, "P6  columns 0 and 2 have come back", &stripe)
+    show(rt, "P6  columns 0 and 2 have come back", &stripe);
 }
 
 // P7: columns 4 and 0 are lost, neighbours around the edge.
-fn around_the_edge(rt: &impl Print) -> io::Result<()> {
+fn around_the_edge(rt: &impl Print) {
     let mut stripe = [238, 238, 2, 5, 4, 10, 8, 20, 238, 238];
     let mut work = [170; 4];
     let answer = rebuild::rebuild(five(), Losses::Two(4, 0), &mut stripe, &mut work);
     expect(answer.is_ok());
     expect(stripe == [0x01, 0x12, 2, 5, 4, 10, 8, 20, 0x10, 0x09]);
     expect(work == [0; 4]);
-    show(rt, "P7  columns 4 and 0 have come back", &stripe)
+    show(rt, "P7  columns 4 and 0 have come back", &stripe);
 }
 
 // P8: a small write of FF to column 4.
-fn written(rt: &impl Print) -> io::Result<()> {
+fn written(rt: &impl Print) {
     let mut stripe = encoded();
     let answer = writing::small_write(five(), &mut stripe, 4, 0, &[255]);
     expect(answer.is_ok());
     expect(stripe == [1, 253, 2, 5, 4, 10, 8, 251, 255, 9]);
-    show(rt, "P8  after a small write of ff to column 4", &stripe)
+    show(rt, "P8  after a small write of ff to column 4", &stripe);
 }
 
 // Whether check counts so many broken chains and differing bits.
@@ -100,7 +100,7 @@ fn cleared() -> [u8; 10]
 }
 
 // P9: two chains are broken, by one bit each, and column 0 explains it.
-fn one_column(rt: &impl Print) -> io::Result<()> {
+fn one_column(rt: &impl Print) {
     let stripe = cleared();
     expect(counts(checking::check(five(), &stripe), 2, 2));
     expect(names(locating::locate(five(), &stripe), 0));
@@ -108,7 +108,7 @@ fn one_column(rt: &impl Print) -> io::Result<()> {
         rt,
         "P9  2 chains broken by 2 bits, column 0 is damaged",
         &stripe,
-    )
+    );
 }
 
 // P10: the information of columns 0 and 1 each XORed with 01.
@@ -122,7 +122,7 @@ fn flipped() -> [u8; 10]
 }
 
 // P10: four chains are broken, and no column explains it.
-fn two_columns(rt: &impl Print) -> io::Result<()> {
+fn two_columns(rt: &impl Print) {
     let stripe = flipped();
     expect(counts(checking::check(five(), &stripe), 4, 4));
     expect(locating::locate(five(), &stripe) == Ok(Damage::Several));
@@ -130,16 +130,16 @@ fn two_columns(rt: &impl Print) -> io::Result<()> {
         rt,
         "P10 4 chains broken, more than one column is damaged",
         &stripe,
-    )
+    );
 }
 
-fn main(rt: HostRuntime) -> io::Result<()> {
+fn main(rt: HostRuntime) {
     let stripe = encoded();
     expect(stripe == [1, 18, 2, 5, 4, 10, 8, 20, 16, 9]);
-    show(&rt, "P5  encoded", &stripe)?;
-    two_apart(&rt)?;
-    around_the_edge(&rt)?;
-    written(&rt)?;
-    one_column(&rt)?;
-    two_columns(&rt)
+    show(&rt, "P5  encoded", &stripe);
+    two_apart(&rt);
+    around_the_edge(&rt);
+    written(&rt);
+    one_column(&rt);
+    two_columns(&rt);
 }

@@ -1,5 +1,6 @@
 // A picture for people: it reads m, n and perhaps p as words of standard input, and prints the stripe as a grid with
 // chain p marked, or with each chain in turn. What cannot be drawn gets one sentence on standard error instead.
+// A write that fails is passed over, and the next is tried: the status says nothing of it.
 #![tactic(auto)]
 
 ghost use Rattle.shape.specs.Good.{Good};
@@ -8,7 +9,7 @@ ghost use Rattle.words.specs.Words.{Refused};
 use crate::picture::{every, picture};
 use answer::Refusal;
 use shape::Shape;
-use std::io::{Result, Write};
+use std::io::Write;
 use words::{bytes, next_word, number};
 
 mod picture;
@@ -17,28 +18,21 @@ mod picture;
 const ROOM: usize = 4096;
 
 // Says how the input is other than two or three words.
-fn miscounted(rt: &impl Eprint, so: &str) -> Result<()> {
-    eprintln!(rt; "{so}: m and n are needed, and p may follow for one chain alone.")
+fn miscounted(rt: &impl Eprint, so: &str) {
+    let _ = eprintln!(rt; "{so}: m and n are needed, and p may follow for one chain alone.");
 }
 
 // Says of m, n or p what it is and what it has to be. The word goes out as it is, since it may be no text.
-fn refuse(
-    rt: &HostRuntime,
-    name: &str,
-    word: &[u8],
-    least: usize,
-    most: usize,
-    end: &str,
-) -> Result<()>
+fn refuse(rt: &HostRuntime, name: &str, word: &[u8], least: usize, most: usize, end: &str)
     requires { Refused word.now least most }
 {
-    eprint!(rt; "{name} is ")?;
-    rt.stderr().write_all(word)?;
-    eprintln!(rt; ", but it has to be a whole number from {least} to {most}{end}.")
+    let _ = eprint!(rt; "{name} is ");
+    let _ = rt.stderr().write_all(word);
+    let _ = eprintln!(rt; ", but it has to be a whole number from {least} to {most}{end}.");
 }
 
 // Prints the chain that a word names, or every chain where there is no word.
-fn chains(rt: &HostRuntime, shape: Shape, word: Option<&[u8]>) -> Result<()>
+fn chains(rt: &HostRuntime, shape: Shape, word: Option<&[u8]>)
     requires { Good shape }
 {
     let Some(word) = word else {
@@ -52,7 +46,7 @@ fn chains(rt: &HostRuntime, shape: Shape, word: Option<&[u8]>) -> Result<()>
 
 // Prints what the words ask for. A word that spells no number counts as 0, which is refused as well.
 // No symbol is looked at, so each is a byte, and nothing but m and n can be refused.
-fn draw(rt: &HostRuntime, first: &[u8], second: &[u8], third: Option<&[u8]>) -> Result<()> {
+fn draw(rt: &HostRuntime, first: &[u8], second: &[u8], third: Option<&[u8]>) {
     let m = number(first).unwrap_or(0);
     let n = number(second).unwrap_or(0);
     let shape = Shape { m, n, w: 1 };
@@ -60,12 +54,12 @@ fn draw(rt: &HostRuntime, first: &[u8], second: &[u8], third: Option<&[u8]>) -> 
         Ok(()) => chains(rt, shape, third),
         Err(Refusal::BadRows) => refuse(rt, "m", first, 2, 16, ""),
         Err(Refusal::BadColumns) => refuse(rt, "n", second, 4 * m - 3, 64, " with this m"),
-        Err(_) => Ok(()),
+        Err(_) => {}
     }
 }
 
 // Takes a text apart into its words, of which the third may be missing.
-fn answer(rt: &HostRuntime, text: &[u8]) -> Result<()> {
+fn answer(rt: &HostRuntime, text: &[u8]) {
     let Some(first) = next_word(text, 0) else {
         return miscounted(rt, "Too few words");
     };
@@ -84,14 +78,14 @@ fn answer(rt: &HostRuntime, text: &[u8]) -> Result<()> {
         bytes(text, first),
         bytes(text, second),
         Some(bytes(text, last)),
-    )
+    );
 }
 
-fn main(rt: HostRuntime) -> Result<()> {
+fn main(rt: HostRuntime) {
     let mut buffer = io::buffer();
     let count = io::read_full(0, &mut buffer);
     if count == ROOM {
         return miscounted(&rt, "Too long a line");
     }
-    answer(&rt, &buffer[..count])
+    answer(&rt, &buffer[..count]);
 }

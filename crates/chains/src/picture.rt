@@ -4,7 +4,7 @@ ghost use Rattle.shape.specs.Good.{Good};
 ghost use Rattle.chains.specs.Marks.{Marked};
 
 use shape::Shape;
-use std::{fmt, io};
+use std::fmt;
 
 // What a symbol is to a chain: its parity symbol, one of its information symbols, with the height, or no symbol of it.
 #[derive(Clone, Copy)]
@@ -43,47 +43,46 @@ fn mark_of(shape: Shape, p: usize, row: usize, column: usize) -> Mark
 }
 
 // Prints the line of the columns' numbers.
-fn heading(rt: &impl Print, shape: Shape) -> io::Result<()> {
-    print!(rt; "column")?;
+fn heading(rt: &impl Print, shape: Shape) {
+    let _ = print!(rt; "column");
     for column in 0..shape.n {
-        print!(rt; "{column:3}")?;
+        let _ = print!(rt; "{column:3}");
     }
-    println!(rt;)
+    let _ = println!(rt;);
 }
 
 // Prints the line of a row.
-fn line(rt: &impl Print, shape: Shape, p: usize, row: usize) -> io::Result<()>
+fn line(rt: &impl Print, shape: Shape, p: usize, row: usize)
     requires { (Good shape) × (p < shape.n) × (row < shape.m) }
 {
-    print!(rt; "row{row:3}")?;
+    let _ = print!(rt; "row{row:3}");
     for column in 0..shape.n {
-        print!(rt; "{}", mark_of(shape, p, row, column))?;
+        let _ = print!(rt; "{}", mark_of(shape, p, row, column));
     }
-    println!(rt;)
+    let _ = println!(rt;);
 }
 
 // Prints the stripe with chain p marked, and says in words what is marked.
-pub(crate) fn picture(rt: &impl Print, shape: Shape, p: usize) -> io::Result<()>
+pub(crate) fn picture(rt: &impl Print, shape: Shape, p: usize)
     requires { (Good shape) × (p < shape.n) }
 {
-    heading(rt, shape)?;
+    heading(rt, shape);
     for row in 0..shape.m {
-        line(rt, shape, p, row)?;
+        line(rt, shape, p, row);
     }
-    println!(rt;
+    let _ = println!(rt;
         "Chain {p}: the parity symbol of column {p}, P, is the XOR of the symbols marked by their heights."
-    )
+    );
 }
 
 // Prints the stripe once for each chain, with an empty line between two.
-pub(crate) fn every(rt: &impl Print, shape: Shape) -> io::Result<()>
+pub(crate) fn every(rt: &impl Print, shape: Shape)
     requires { Good shape }
 {
     for p in 0..shape.n {
         if 0 < p {
-            println!(rt;)?;
+            let _ = println!(rt;);
         }
-        picture(rt, shape, p)?;
+        picture(rt, shape, p);
     }
-    Ok(())
 }
