@@ -41,6 +41,7 @@ fn encode_blocks(stripe: &mut [u8], wk: Walk, whole: usize)
 }
 
 // Sets the next bytes of that parity symbol, as many as the longest length that fits, and gives that length.
+// (16 bytes as the front of a block of 64: in a block of their own they would be a call.)
 fn encode_some(stripe: &mut [u8], wk: Walk, from: usize) -> usize
     requires sized { length stripe.old ≡ size wk.shape }
     requires inside { from < wk.shape.w }

@@ -48,6 +48,7 @@ fn even_front(s: &[u8], wk: Walk, front: usize) -> bool
 }
 
 // How many of the bytes from `from` on obey the rule, 16 or 1 as they fit; none if they do not.
+// (16 bytes as the front of a block of 64: in a block of their own they would be a call.)
 fn even_some(s: &[u8], wk: Walk, from: usize) -> Option<usize>
     requires sized { length s.now ≡ size wk.shape }
     requires inside { from < wk.shape.w }
