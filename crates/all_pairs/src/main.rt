@@ -17,7 +17,8 @@ mod trying;
 // The most bytes of a stripe.
 const LARGEST_STRIPE: usize = 65536;
 
-// As many bytes as half of a stripe has, and no workspace has more: it has two columns of the five or more.
+// As many bytes as half of the largest stripe has. No workspace has more: it is two columns, of which a stripe has at
+// least five.
 const ROOM: usize = 32768;
 
 // The most bytes of a symbol.

@@ -19,7 +19,7 @@ pub fn none<const LEN: usize>(acc: &[u8; LEN], len: usize) -> bool
     any == 0
 }
 
-// Whether they are like the bytes of s from `at` on; whoever calls it stays within the slice.
+// Whether the first len bytes of acc are like those of s from `at` on; whoever calls it stays within the slice.
 pub fn same<const LEN: usize>(acc: &[u8; LEN], s: &[u8], at: usize, len: usize) -> bool
     requires { (len ≤ LEN) × (at + len ≤ length s.now) }
     ensures { Tells (Same acc.now s.now at len) result }
@@ -38,7 +38,7 @@ fn bits(x: u8) -> u16
     u8::count_ones(x) as u16
 }
 
-// How many of their bits are 1; whoever calls it has as few bytes as a u16 counts the bits of.
+// How many bits of the first len bytes of acc are 1; whoever calls it has as few as a u16 counts the bits of.
 pub fn count<const LEN: usize>(acc: &[u8; LEN], len: usize) -> u16
     requires { (len ≤ LEN) × (8 * len < 2 ^ 16) }
     ensures { Ones acc.now len result }
